@@ -16,7 +16,7 @@ import sys
 import tempfile
 import time
 
-from requests import LINE, PARISH, RUNS, apply, beside, copied, entry_row, lines_of, text
+from requests import LINE, LINK, PARISH, RUNS, SOUGHT, apply, beside, copied, entry_row, lines_of, span_of, text
 
 EACH = 20  # entries of a page
 
@@ -49,9 +49,9 @@ def written(file):
     """The rows of the tables that each entry of an archive has."""
     conn = sqlite3.connect(file)
     numbers = conn.execute("SELECT no, kind, batch FROM record WHERE no > 1 ORDER BY no").fetchall()
-    found = [(record, lines_of(conn, record[0]), beside(conn, record[0])) for record in numbers]
+    found = [(record, lines_of(conn, record[0]), span_of(conn, record[0])) for record in numbers]
     conn.close()
-    return found
+    return [(*row, *beside(row[1])) for row in found]
 
 
 def theirs(file, made, together):
@@ -63,7 +63,7 @@ def theirs(file, made, together):
         start = time.perf_counter()
         if together:
             conn.execute("BEGIN")
-        for n, (record, lines, (span, sought, links)) in enumerate(made):
+        for n, (record, line, span, links, sought) in enumerate(made):
             if not together:
                 conn.execute("SELECT digest, first, count FROM receipt WHERE token = ?1", (f"t{n}",)).fetchall()
                 lines_of(conn, 1)
@@ -71,13 +71,11 @@ def theirs(file, made, together):
                 conn.execute("BEGIN")
             conn.execute("SELECT no FROM sought WHERE text = ?1 AND dst = ?2", sought[1:]).fetchall()
             conn.execute("INSERT INTO record (no, kind, batch) VALUES (?1, ?2, ?3)", record)
-            for line in lines:
-                conn.execute(LINE, line)
+            conn.execute(LINE, line)
+            conn.executemany(LINK, ((key,) for key in links))
+            conn.execute(SOUGHT, sought)
             if span:
                 conn.execute("INSERT INTO span (no, lo, hi) VALUES (?1, ?2, ?3)", span)
-            conn.execute("INSERT INTO sought (no, text, dst) VALUES (?1, ?2, ?3)", sought)
-            for link in links:
-                conn.execute("INSERT INTO link (id) VALUES (?1)", link)
             if not together or n + 1 == len(made):
                 conn.execute("UPDATE meta SET next = ?1", (record[0] + 1,))
                 conn.execute(

@@ -20,6 +20,7 @@ sys.path.append(str(ROOT / "tests"))
 
 from beside import links_of, sought_of  # noqa: E402
 from calendars import span_of  # noqa: E402
+from packed import row_of  # noqa: E402
 
 LINE = "INSERT INTO line (no, pos, depth, tag, text, dst) VALUES (?, ?, ?, ?, ?, ?)"
 
@@ -61,7 +62,7 @@ def person(rng, number):
 def put(conn, number, kind, lines):
     """A record that is kept as these lines, with all that an archive has beside them."""
     conn.execute("INSERT INTO record (no, kind, batch) VALUES (?, ?, 0)", (number, kind))
-    conn.executemany(LINE, ((number, pos, *line) for pos, line in enumerate(lines)))
+    conn.execute(LINE, row_of(number, lines))
     conn.executemany("INSERT INTO link VALUES (?)", ((key,) for key in links_of(number, lines)))
     if (sought := sought_of(lines)) is not None:
         conn.execute("INSERT INTO sought VALUES (?, ?, ?)", (number, *sought))

@@ -25,11 +25,14 @@ import time
 ROOT = pathlib.Path(__file__).resolve().parents[1]
 sys.path.append(str(ROOT / "tests"))
 
-from beside import link_of, links_of  # noqa: E402
+from beside import links_of, sought_of  # noqa: E402
+from packed import row_of, unpack  # noqa: E402
 
 PARISH = ROOT / "crates/parish/out/parish"
 MANY, ROWS, RUNS = 100, 10_000, 3
 LINE = "INSERT INTO line (no, pos, depth, tag, text, dst) VALUES (?1, ?2, ?3, ?4, ?5, ?6)"
+LINK = "INSERT OR IGNORE INTO link (id) VALUES (?1)"
+SOUGHT = "INSERT INTO sought (no, text, dst) VALUES (?1, ?2, ?3)"
 VERBS = (
     "person", "name", "sex", "family", "child", "event", "amend", "participant", "place", "repo", "source", "citation",
     "entry", "link", "unlink", "remove",
@@ -122,9 +125,8 @@ def made(file, persons):
     with sqlite3.connect(file) as conn:
         for number in range(1, persons + 1):
             conn.execute("INSERT INTO record (no, kind, batch) VALUES (?1, 'person', 0)", (number,))
-            conn.execute(LINE, (number, 0, 0, "person", None, None))
-            conn.execute(LINE, (number, 1, 1, "name", f"Tom /Ray {number}/", None))
-            conn.execute(LINE, (number, 2, 1, "sex", "M", None))
+            lines = [(0, "person", None, None), (1, "name", f"Tom /Ray {number}/", None), (1, "sex", "M", None)]
+            conn.execute(LINE, row_of(number, lines))
         conn.execute("UPDATE meta SET next = ?1", (persons + 1,))
     conn.close()
     families = [row("family", k, persons) for k in range(MANY)]
@@ -148,23 +150,27 @@ def ours(file, rows):
 
 
 def lines_of(conn, number):
-    return conn.execute(
-        "SELECT no, pos, depth, tag, text, dst FROM line WHERE no = ?1 ORDER BY id", (number,)
-    ).fetchall()
+    """The row of `line` of a number, where it has one."""
+    return conn.execute("SELECT no, pos, depth, tag, text, dst FROM line WHERE no = ?1", (number,)).fetchone()
 
 
-def beside(conn, number):
-    """What is there beside the lines of a number: its rows of `span` and `sought`, where it has them, and those of
-    `link`."""
-    span = conn.execute("SELECT no, lo, hi FROM span WHERE no = ?1", (number,)).fetchone()
-    sought = conn.execute("SELECT no, text, dst FROM sought WHERE no = ?1", (number,)).fetchone()
-    return span, sought, [(key,) for key in links_of(number, (line[2:] for line in lines_of(conn, number)))]
+def beside(row):
+    """What a record has beside its row of `line`: its links, and the row of what it is looked for by."""
+    number, _, _, tag, packed, named = row
+    lines = unpack(tag, packed, named)
+    sought = sought_of(lines)
+    return links_of(number, lines), sought and (number, *sought)
+
+
+def span_of(conn, number):
+    """The row of `span` of a number, where it has one."""
+    return conn.execute("SELECT no, lo, hi FROM span WHERE no = ?1", (number,)).fetchone()
 
 
 def plan(file, rows):
-    """What parish writes for each row: the numbers that it names, the records that it puts with what they have beside
-    their lines, its receipt. Each row is one request on records that no other row changes, so the lines that are there
-    at the end are those that it wrote."""
+    """What parish writes for each row: the numbers that it names, the records that it puts with their spans, its
+    receipt. Each row is one request on records that no other row changes, so the lines that are there at the end
+    are those that it wrote."""
     with tempfile.TemporaryDirectory() as folder:
         copy = copied(file, folder)
         before, after = sqlite3.connect(file), sqlite3.connect(copy)
@@ -181,7 +187,8 @@ def plan(file, rows):
                 after.execute("SELECT no, kind, batch FROM record WHERE no = ?1", (number,)).fetchone()
                 for number in put
             ]
-            rows_of = [(kind, lines_of(after, number), beside(after, number)) for number, kind in zip(put, kinds)]
+            rows_of = [(kind, lines_of(after, number), span_of(after, number)) for number, kind in zip(put, kinds)]
+            rows_of = [(*row, beside(row[1]) if row[1] else ([], None)) for row in rows_of]
             found.append((named, [(number, *rest) for number, rest in zip(put, rows_of)], receipt))
         before.close()
         after.close()
@@ -212,21 +219,20 @@ def perform(conn, named, put, receipt):
         lines_of(conn, number)
     conn.execute("SELECT next FROM meta").fetchall()
     conn.execute("BEGIN")
-    for number, kind, lines, (span, sought, links) in put:
+    for number, kind, line, span, (links, sought) in put:
         if kind is None:
             remove(conn, number)
             continue
         if conn.execute("UPDATE record SET kind = ?2, batch = ?3 WHERE no = ?1", kind).rowcount == 0:
             conn.execute("INSERT INTO record (no, kind, batch) VALUES (?1, ?2, ?3)", kind)
         conn.execute("DELETE FROM line WHERE no = ?1", kind[:1])
-        for line in lines:
-            conn.execute(LINE, line)
+        conn.execute(LINE, line)
+        conn.executemany(LINK, ((key,) for key in links))
+        conn.execute("DELETE FROM sought WHERE no = ?1", kind[:1])
+        if sought:
+            conn.execute(SOUGHT, sought)
         if span and conn.execute("UPDATE span SET lo = ?2, hi = ?3 WHERE no = ?1", span).rowcount == 0:
             conn.execute("INSERT INTO span (no, lo, hi) VALUES (?1, ?2, ?3)", span)
-        if sought and conn.execute("UPDATE sought SET text = ?2, dst = ?3 WHERE no = ?1", sought).rowcount == 0:
-            conn.execute("INSERT INTO sought (no, text, dst) VALUES (?1, ?2, ?3)", sought)
-        for link in links:
-            conn.execute("INSERT OR IGNORE INTO link (id) VALUES (?1)", link)
     if receipt[3]:
         conn.execute("UPDATE meta SET next = ?1", (receipt[2] + 1,))
     conn.execute("INSERT INTO receipt (token, digest, first, count) VALUES (?1, ?2, ?3, ?4)", receipt)
@@ -234,12 +240,13 @@ def perform(conn, named, put, receipt):
 
 
 def remove(conn, number):
-    """Takes a record out, where none names it."""
-    ends = link_of(0, number), link_of((1 << 32) - 1, number)
-    assert not conn.execute("SELECT id FROM link WHERE id >= ?1 AND id <= ?2", ends).fetchall()
+    """Takes a record out, where no line names it."""
+    first = (number << 32) - (1 << 63)
+    found = conn.execute("SELECT id FROM link WHERE id BETWEEN ?1 AND ?2", (first, first + (1 << 32) - 1)).fetchall()
+    assert not [key for (key,) in found if key & 0xFFFFFFFF != number]
     conn.execute("DELETE FROM line WHERE no = ?1", (number,))
-    conn.execute("DELETE FROM span WHERE no = ?1", (number,))
     conn.execute("DELETE FROM sought WHERE no = ?1", (number,))
+    conn.execute("DELETE FROM span WHERE no = ?1", (number,))
     conn.execute("DELETE FROM record WHERE no = ?1", (number,))
 
 

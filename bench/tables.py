@@ -1,6 +1,6 @@
 """Times rows written in one commit and read back, beside sqlite3 (C): python3 bench/tables.py [COUNT..].
 
-Of COUNT persons with a name each (10,000 and 100,000): a row of `record` and two of `line` for each, in memory, in one
+Of COUNT persons with a name each (10,000 and 100,000): a row of `record` and one of `line` for each, in memory, in one
 commit, and all of them read back. archive_rows is timed by differences: a run that makes the records, one that writes
 them too, and one that reads them too. The peer is the C library through Python's module `sqlite3`, with the same tables
 and the same statements, each prepared once, over a database in memory. Five runs of each in turn, of which the fastest
@@ -19,17 +19,8 @@ SCHEMA = (
     "CREATE TABLE batch (no INTEGER PRIMARY KEY, is_open INTEGER NOT NULL) STRICT",
     "CREATE TABLE record (no INTEGER PRIMARY KEY, kind TEXT NOT NULL,"
     " batch INTEGER NOT NULL REFERENCES batch (no) ON DELETE RESTRICT) STRICT",
-    "CREATE TABLE line (id INTEGER PRIMARY KEY, no INTEGER NOT NULL REFERENCES record (no) ON DELETE RESTRICT,"
-    " pos INTEGER NOT NULL, depth INTEGER NOT NULL, tag TEXT NOT NULL, text TEXT,"
-    " dst INTEGER REFERENCES record (no) ON DELETE RESTRICT) STRICT",
-    "CREATE INDEX line_by_record ON line (no)",
-    "CREATE INDEX line_by_target ON line (dst)",
-    "CREATE INDEX line_by_text ON line (text, dst)",
-    "CREATE TABLE span (no INTEGER PRIMARY KEY REFERENCES record (no) ON DELETE RESTRICT, lo INTEGER, hi INTEGER)"
-    " STRICT",
-    "CREATE TABLE sought (no INTEGER PRIMARY KEY REFERENCES record (no) ON DELETE RESTRICT, text TEXT NOT NULL,"
-    " dst INTEGER) STRICT",
-    "CREATE INDEX sought_by_text ON sought (text, dst)",
+    "CREATE TABLE line (no INTEGER PRIMARY KEY REFERENCES record (no) ON DELETE RESTRICT,"
+    " pos INTEGER NOT NULL, depth INTEGER NOT NULL, tag TEXT NOT NULL, text TEXT, dst INTEGER) STRICT",
     "INSERT INTO batch VALUES (0, 0)",
 )
 
@@ -59,18 +50,14 @@ def theirs(count):
     insert = "INSERT INTO line (no, pos, depth, tag, text, dst) VALUES (?1, ?2, ?3, ?4, ?5, ?6)"
     for number in range(1, count + 1):
         conn.execute("DELETE FROM line WHERE no = ?1", (number,))
-        conn.execute(insert, (number, 0, 0, "person", None, None))
-        conn.execute(insert, (number, 1, 1, "name", f"Ann /Lee {number}/", None))
-    for table in ("span", "sought"):
-        for number in range(1, count + 1):
-            conn.execute(f"DELETE FROM {table} WHERE no = ?1", (number,))
+        conn.execute(insert, (number, 0, 0, "person", f"\n1 name Ann /Lee {number}/\n", None))
     conn.execute("COMMIT")
     written = time.perf_counter() - start
     start = time.perf_counter()
     records = conn.execute("SELECT no, batch FROM record ORDER BY no").fetchall()
-    lines = conn.execute("SELECT no, depth, tag, text, dst FROM line ORDER BY id").fetchall()
+    lines = conn.execute("SELECT no, tag, text, dst FROM line ORDER BY no").fetchall()
     read = time.perf_counter() - start
-    assert len(records) == count and len(lines) == 2 * count
+    assert len(records) == count and len(lines) == count
     return written, read
 
 
@@ -82,8 +69,8 @@ def main():
         made, wrote, read = [min(run[0][step] for run in runs) for step in range(3)]
         peer = [min(run[1][step] for run in runs) for step in range(2)]
         for name, found in (("store_rows", (wrote - made, read - wrote)), ("`sqlite3` (C)", peer)):
-            cells = [f"{seconds:.2f} s | {3 * count / seconds:,.0f}" for seconds in found]
-            print(f"| {count:,} | {3 * count:,} | {name} | {cells[0]} | {cells[1]} |")
+            cells = [f"{seconds:.2f} s | {2 * count / seconds:,.0f}" for seconds in found]
+            print(f"| {count:,} | {2 * count:,} | {name} | {cells[0]} | {cells[1]} |")
 
 
 if __name__ == "__main__":

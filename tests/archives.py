@@ -16,6 +16,7 @@ from harness import (
     ROOT, Case, Outcome, Tools, close_output_of, demand, difference, expect, pipe_without_reader, refused, refused_row,
     run, shown, written,
 )
+from packed import PACKS, each_line
 
 NAME = "Ashby Family History Society"
 
@@ -167,8 +168,39 @@ def spellings_of_rows(tools):
     rows = b'\xef\xbb\xbfa,person,"two\nlines",M\r\n\r\n"b","person","x, y"," "\r\n\nc,person,"a ""b"" c",F'
     with Folder(tools) as at:
         answered(at.made().apply(rows), b"a,ok,1,1\nb,refused,90,BadRow\nc,ok,2,1\n")
-        names = [text for (text,) in at.rows_of("SELECT text FROM line WHERE tag = 'name' ORDER BY id")]
+        names = [text for _, _, _, tag, text, _ in each_line(at.rows_of(PACKS)) if tag == "name"]
         demand(names == ["two\nlines", 'a "b" c'], f"the names are {names}")
+
+
+def breaks_of_lines_in_texts(tools):
+    """A text of several lines is kept in one row, with CR for LF, and comes out as it went in; a CR beside it does
+    not."""
+    rows = lines(('a,person,"Ann\nMary\n\n/Lee/",F', 'b,source,"\n",,,,', 'c,event,1,OCCU,"weaver\n",,'))
+    with Folder(tools) as at:
+        answered(at.made().apply(rows), b"a,ok,1,1\nb,ok,2,1\nc,ok,3,1\n")
+        kept = at.rows_of("SELECT no, text, dst FROM line ORDER BY no")
+        wanted = [
+            (1, "\n1 name Ann\rMary\r\r/Lee/\n1 sex F\n", None),
+            (2, " \r\n", None),
+            (3, "\n1 OCCU weaver\r\n", 1),
+        ]
+        demand(kept == wanted, f"the packed texts are {kept}")
+        text = run(at.parish, ("export", at.file)).out
+        demand(b"1 NAME Ann\n2 CONT Mary\n2 CONT\n2 CONT /Lee/\n" in text, f"{text}")
+        demand(b"1 OCCU weaver\n2 CONT\n" in text, f"{text}")
+        answered(at.apply(b'd,name,1,"Ann\rLee"\n'), b"d,refused,58,BadText\n")
+        demand(at.rows_of("SELECT no, text, dst FROM line ORDER BY no") == kept, "the rows changed")
+
+
+def what_was_before(tools):
+    """`past` is made with a new archive, and empty; what somebody else writes there is not looked at, and stays."""
+    with Folder(tools) as at:
+        at.made().apply(b"a,person,Ann,F\nb,name,1,Anna\n")
+        demand(at.rows_of("SELECT * FROM past") == [], "it is not empty")
+        at.other_database("INSERT INTO past VALUES (7, 9, 't', 'no lines at all'), (8, -1, '', '')")
+        answered(at.apply(b"c,name,1,Annie\nd,remove,1\n"), b"c,ok,0,0\nd,ok,0,0\n")
+        expect(run(at.parish, ("audit", at.file)), written(b"sound: 0 records\n"))
+        demand(at.rows_of("SELECT id FROM past ORDER BY id") == [(7,), (8,)], "its rows are others")
 
 
 def rows_that_are_no_requests(tools):
@@ -751,6 +783,8 @@ TESTS = (
     an_answer_before_the_next_row,
     nothing_to_do,
     spellings_of_rows,
+    breaks_of_lines_in_texts,
+    what_was_before,
     rows_that_are_no_requests,
     what_is_wrong_is_told,
     faults_that_cannot_be_told,

@@ -52,7 +52,8 @@ def a_citation_of_a_person(tools):
     with Audited(tools) as at:
         at.with_rows(("a,source,Register,,,,", "b,person,Ann,F", "c,citation,2,1,,"))
         expect(at.audit(), sound(3))
-        at.other_database("UPDATE line SET dst = 2 WHERE no = 3 AND tag = 'source'")
+        with Tables(at.file) as tables:
+            tables.changed(3, 1, (*tables.lines(3)[1][:3], 2))
         told_of(at, "record 3", "2, which is no source", "the citation")
 
 

@@ -25,6 +25,7 @@ sys.dont_write_bytecode = True
 
 from beside import links_of, sought_of  # noqa: E402
 from harness import ROOT  # noqa: E402
+from packed import lines_of, put_lines  # noqa: E402
 
 OURS = os.path.join(ROOT, "crates", "parish", "out", "parish")
 ROWS = 60  # of an archive
@@ -47,23 +48,41 @@ class Spoiling:
         found = self.rows(text, *values)
         return self.rng.choice(found) if found else None
 
+    def line(self, is_meant):
+        """One of the lines that are meant: its number, its place, the line."""
+        found = [
+            (number, at, line)
+            for (number,) in self.rows("SELECT no FROM line ORDER BY no")
+            for at, line in enumerate(lines_of(self.conn, number))
+            if is_meant(line)
+        ]
+        return self.rng.choice(found) if found else None
+
+    def changed(self, number, at, line):
+        lines = lines_of(self.conn, number)
+        put_lines(self.conn, number, [*lines[:at], line, *lines[at + 1 :]])
+
     def number(self):
         return self.rng.randrange(1, self.next + 2)
 
     def pointer(self):
         """A line names another number."""
-        for table in self.rng.sample(("line", "line", "line", "slip_line"), 4):
-            found = self.one(f"SELECT id, dst FROM {table} WHERE dst IS NOT NULL")
+        if self.rng.randrange(4):
+            found = self.line(lambda line: line[3] is not None)
             if found:
-                taken = self.one(f"SELECT dst FROM {table} WHERE dst IS NOT NULL")[0]
-                number = self.rng.choice((taken, self.number()))
-                self.rows(f"UPDATE {table} SET dst = ? WHERE id = ?", number, found[0])
-                return
+                taken = self.line(lambda line: line[3] is not None)[2][3]
+                self.changed(*found[:2], (*found[2][:3], self.rng.choice((taken, self.number()))))
+            return
+        found = self.one("SELECT id, dst FROM slip_line WHERE dst IS NOT NULL")
+        if found:
+            taken = self.one("SELECT dst FROM slip_line WHERE dst IS NOT NULL")[0]
+            self.rows("UPDATE slip_line SET dst = ? WHERE id = ?", self.rng.choice((taken, self.number())), found[0])
 
     def place(self):
-        found = self.one("SELECT id FROM line WHERE tag = 'place' AND depth = 0")
+        found = self.line(lambda line: line[:2] == (0, "place"))
         if found:
-            self.rows("UPDATE line SET text = ? WHERE id = ?", self.rng.choice(NAMES), found[0])
+            number, at, (depth, tag, _, named) = found
+            self.changed(number, at, (depth, tag, self.rng.choice(NAMES), named))
 
     def next_number(self):
         numbers = (0, 1, self.next - 1, self.next + 1, 2**32, 2**32 + 1)
@@ -93,30 +112,25 @@ class Spoiling:
         if found:
             [(free,)] = self.rows("SELECT max(next, (SELECT max(no) FROM record) + 1) FROM meta")
             self.rows("INSERT INTO record VALUES (?, ?, 0)", free, found[1])
-            self.rows(
-                "INSERT INTO line (no, pos, depth, tag, text, dst) SELECT ?, pos, depth, tag, text, dst FROM line"
-                " WHERE no = ? ORDER BY id",
-                free, found[0],
-            )
+            self.rows("INSERT INTO line SELECT ?, pos, depth, tag, text, dst FROM line WHERE no = ?", free, found[0])
             self.rows("INSERT INTO span SELECT ?, lo, hi FROM span WHERE no = ?", free, found[0])
             self.rows("UPDATE meta SET next = ?", free + 1)
 
     def tag(self):
         """An event or what is carried gets another tag."""
-        found = self.one("SELECT id FROM line WHERE depth > 0 AND upper(tag) = tag")
+        found = self.line(lambda line: line[0] > 0 and line[1].upper() == line[1])
         if found:
-            self.rows("UPDATE line SET tag = ? WHERE id = ?", self.rng.choice(TAGS), found[0])
+            number, at, (depth, _, text, named) = found
+            self.changed(number, at, (depth, self.rng.choice(TAGS), text, named))
 
     def carried(self):
         """One more carried line, with a text or a number."""
         found = self.one("SELECT no FROM record WHERE kind IN ('person', 'source', 'repo', 'place')")
         if found:
-            [(last,)] = self.rows("SELECT max(pos) FROM line WHERE no = ?", *found)
             text, number = self.rng.choice((("x", None), ("", None), (None, self.number())))
-            self.rows("INSERT INTO line (no, pos, depth, tag, text, dst) VALUES (?, ?, 1, 'carried', NULL, NULL)",
-                      found[0], last + 1)
-            self.rows("INSERT INTO line (no, pos, depth, tag, text, dst) VALUES (?, ?, 2, ?, ?, ?)",
-                      found[0], last + 2, self.rng.choice(TAGS), text, number)
+            lines = lines_of(self.conn, found[0])
+            more = [(1, "carried", None, None), (2, self.rng.choice(TAGS), text, number)]
+            put_lines(self.conn, found[0], lines + more)
 
     def slip(self):
         column = self.rng.choice(("keep", "gone", "undone"))
@@ -134,7 +148,7 @@ class Spoiling:
         """Links and what is looked for are those of the lines that are there now."""
         self.rows("DELETE FROM sought")
         for number, in self.rows("SELECT no FROM record"):
-            lines = self.rows("SELECT depth, tag, text, dst FROM line WHERE no = ? ORDER BY id", number)
+            lines = lines_of(self.conn, number)
             for key in links_of(number, lines):
                 self.rows("INSERT OR IGNORE INTO link VALUES (?)", key)
             sought = sought_of(lines) if lines else None

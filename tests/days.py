@@ -135,7 +135,7 @@ def no_archive(tools):
 def lines_of_no_record(tools):
     """40 where somebody else has spoilt a record and words are asked for, and nothing is written."""
     with Dated(tools) as at:
-        at.with_rows(ROWS).other_database("UPDATE line SET tag = 'frob' WHERE no = 3 AND pos = 0")
+        at.with_rows(ROWS).other_database("UPDATE line SET tag = 'frob' WHERE no = 3")
         expect(at.told(), refused(40))
 
 

@@ -25,7 +25,10 @@ from calendars import anew as date_anew
 from calendars import span_of
 from harness import ROOT, Case, Tools, demand, expect, refused, run, written
 from imports import killed_after
+from packed import PACKS, each_line, row_of
 from rooms import visited
+from spoilt import FILE, ROWS
+from spoilt import LATER as SLIPS
 from table.making import between
 from undisturbed import Command, bytes_of
 from visits import request
@@ -171,9 +174,9 @@ def with_dates_anew(rows: list, whole, record) -> list:
 
 
 def anew(before: dict[str, list]) -> dict[str, list]:
-    """What the tables of the first version become: an open import is gone, each date is written as it is today, each
-    record with a date has its span, each has its links and what it is looked for by, and the version is the second one.
-    All else stays."""
+    """What the tables of the first version become: an open import is gone, each date is written as it is today, the
+    lines of each record are in one row, each with a date has its span, each has its links and what it is looked for by,
+    and the version is the second one. All else stays."""
     opened = {number for number, is_open in before["batch"] if is_open}
     gone = {number for number, _, batch in before["record"] if batch in opened}
     kept = [row for row in before["line"] if row[1] not in gone]
@@ -191,6 +194,7 @@ def anew(before: dict[str, list]) -> dict[str, list]:
     soughts = {number: sought_of(given) for number, given in kept_as.items()}
     return {
         **after,
+        "line": [row_of(number, given) for number, given in kept_as.items()],
         "span": [(number, *span) for number, span in spans.items() if span is not None],
         "link": sorted((key,) for number, given in kept_as.items() for key in links_of(number, given)),
         "sought": sorted((number, *sought) for number, sought in soughts.items() if sought is not None),
@@ -307,13 +311,13 @@ def each_date(tools):
         is_made_anew(at, before)
         spans = {number: ends for number, *ends in at.rows_of("SELECT no, lo, hi FROM span")}
         for number, (text, *ends) in (pair for first in (10, 50) for pair in enumerate(ALL.values(), first)):
-            found = at.rows_of(f"SELECT text FROM line WHERE no = {number} AND tag = 'date'")
-            demand(found == [(text,)] and spans.pop(number, None) == ends, f"{number}: {text!r} is {found}")
+            found = [line[4] for line in each_line(at.rows_of(PACKS)) if (line[0], line[3]) == (number, "date")]
+            demand(found == [text] and spans.pop(number, None) == ends, f"{number}: {text!r} is {found}")
             kept = at.rows_of(f"SELECT text FROM slip_line WHERE no = {number} AND tag = 'date'")
             demand(number >= 50 or kept == [(text,), (text,)], f"{number}: the slip has {kept}, not {text!r}")
         demand(not spans, f"{spans} are no records with a date")
         expect(at.apply(b"u,undo,6\n"), written(b"u,ok,0,0\n"))
-        demand(at.rows_of("SELECT dst FROM line WHERE no = 10 AND pos = 0") == [(5,)], "the events did not go back")
+        demand(at.rows_of("SELECT dst FROM line WHERE no = 10") == [(5,)], "the events did not go back")
         expect(at.audit(), written(f"sound: {count + 1} records\n".encode()))
     # an event whose own tag is the word of a date; no request makes one
     with Earlier(tools) as at:
@@ -380,6 +384,32 @@ def an_archive_of_that_program(tools):
         expect(at.audit(), written(b"sound: 18 records\n"))
 
 
+# With texts of several lines, and carried lines of which one names another record.
+BREAKS = between("0 @N@ NOTE a", "1 CONT ", "1 CONT b", "0 @I@ INDI", "1 NAME Kit /Ray/", "2 NOTE @N@", "1 NOTE c",
+                 "2 CONT d", "2 _DEEP")
+KINDS = {"person", "family", "event", "citation", "place", "repo", "source", "entry", "other"}
+
+
+def each_kind_of_record(tools):
+    """What today's program made of rows and of files, written as the first version has it, is made anew as it was: the
+    export is the same, and the tables are as is worked out beside."""
+    with Earlier(tools) as at:
+        at.made().apply(lines((*ROWS, 'w,name,5,"Ann\nLeigh\n"')))
+        for token, given in (("file", FILE), ("breaks", BREAKS)):
+            told = run(at.parish, ("import", at.file, "--token", token), given)
+            demand(told.status == 0, f"{told}")
+        at.apply(lines(SLIPS))
+        text, tables = at.export(), at.tables()
+        demand(text.status == 0 and {row[1] for row in tables["record"]} == KINDS, f"{text.err!r}")
+        before = as_of_that_time(at, range(100, 110)).first_tables()
+        expect(at.export(), text)
+        is_made_anew(at, before)
+        kept = {name: rows for name, rows in tables.items() if name != "link"}
+        demand({name: at.tables()[name] for name in kept} == kept, "the tables are not those of before")
+        told = at.audit()
+        demand(told.status == 0, f"{told}")
+
+
 TODAY = ("--today", "2024-01-01")
 # Beside Ann, who is dead, Eva, who is living, and her birth.
 WITH_THE_LIVING = {**BIRTHS, 6: person("Eva /Ray/"), 7: born(6, "3 MAR 1990")}
@@ -427,7 +457,8 @@ def whoever_opens_it(tools):
 
 def a_later_version(tools):
     """It is refused, and nothing is changed, whatever tables it has."""
-    for statements in ((), ("DROP TABLE span",), ("DROP TABLE link",), ("DROP INDEX line_by_text", "DROP TABLE slip")):
+    both = ("DROP INDEX sought_by_text", "DROP TABLE slip")
+    for statements in ((), ("DROP TABLE span",), ("DROP TABLE link",), both):
         with Earlier(tools) as at:
             at.made().apply(b"a,person,Ann,F\n")
             at.other_database("UPDATE meta SET version = 3", *statements)
@@ -559,8 +590,13 @@ def as_of_that_time(at: Earlier, begun: Iterable[int]) -> Earlier:
     """An archive of the second version becomes one of the first, with an import that is open, of places with these
     numbers."""
     conn = sqlite3.connect(at.file)
-    for name in LATER:
+    rows = each_line(conn.execute(PACKS).fetchall())
+    for name in ("line", *LATER):
         conn.execute(f"DROP TABLE {name}")
+    for text in TABLES:
+        if text.startswith(("CREATE TABLE line ", "CREATE INDEX line_by_")):
+            conn.execute(text)
+    conn.executemany("INSERT INTO line (no, pos, depth, tag, text, dst) VALUES (?, ?, ?, ?, ?, ?)", rows)
     conn.execute("UPDATE meta SET version = 1")
     french = "tag = 'date' AND text LIKE '%@#DFRENCH R@%' AND id %"
     conn.execute(f"UPDATE line SET text = lower(text) WHERE {french} 3 = 0")
@@ -616,6 +652,7 @@ TESTS = (
     each_date,
     a_merge_of_that_time_is_undone,
     an_open_import_goes_first,
+    each_kind_of_record,
     an_archive_of_that_program,
     whoever_opens_it,
     a_later_version,

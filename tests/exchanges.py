@@ -7,10 +7,11 @@ from archives import BAPTISM, BURIAL, generated, lines
 from exports import ARCHIVES
 from harness import Case, Tools, demand, expect, run, tally, written
 from imports import Imported
+from packed import unpack
 from renumbering import demand_same
 from table.making import between
 
-LINES = "SELECT no, kind, depth, tag, text, dst FROM record JOIN line USING (no) ORDER BY no, pos"
+LINES = "SELECT no, kind, tag, text, dst FROM record JOIN line USING (no) ORDER BY no"
 
 # two places of one name, an unused one, lines carried at level 98, and others that name each other
 GIVEN = between(
@@ -38,10 +39,7 @@ l1,link,16,1,5,same farm
 
 def records(at):
     """Each record by its number: its kind and its lines."""
-    found: dict = {}
-    for number, kind, depth, tag, text, named in at.rows_of(LINES):
-        found.setdefault(number, (kind, []))[1].append((depth, tag, text, named))
-    return found
+    return {number: (kind, unpack(*packed)) for number, kind, *packed in at.rows_of(LINES)}
 
 
 def it_comes_back(tools):

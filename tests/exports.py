@@ -373,7 +373,7 @@ def spoilt_lines(tools):
         with Exported(tools) as at:
             at.with_rows(rows)
             conn = sqlite3.connect(at.file)
-            conn.execute("UPDATE line SET tag = 'frob' WHERE no = ? AND pos = 0", (number,))
+            conn.execute("UPDATE line SET tag = 'frob' WHERE no = ?", (number,))
             conn.commit()
             conn.close()
             got = at.export()

@@ -8,9 +8,9 @@ import time
 
 from archives import Folder, answered, killed_and_run_again, lines
 from harness import Case, Tools, demand, expect, written
+from packed import PACKS, each_line
 
 MANY = 2_000  # events of the person that is gone
-RECORDS = "SELECT no, pos, depth, tag, text, dst FROM line ORDER BY no, pos"
 
 # Rows with their answers, each pair in a new archive.
 WALKS = {
@@ -74,13 +74,13 @@ def records_of_before(tools):
     with Folder(tools) as at:
         done = at.made().apply(rows)
         demand(done.status == 0 and b"refused" not in done.out, f"{done}")
-        before = at.rows_of(RECORDS)
+        before = each_line(at.rows_of(PACKS))
         expect(at.apply(b"m,merge,1,2\n"), written(b"m,ok,12,1\n"))
-        merged = at.rows_of(RECORDS)
+        merged = each_line(at.rows_of(PACKS))
         demand(all(dst != 2 and number != 2 for number, *_, dst in merged), "a line names the person that is gone")
         demand((1, 5, 2, "SEX", "M", None) in merged, "the second sex is not carried")
         expect(at.apply(b"u,undo,12\n"), written(b"u,ok,0,0\n"))
-        demand(at.rows_of(RECORDS) == before, "the lines of before are not there again")
+        demand(each_line(at.rows_of(PACKS)) == before, "the lines of before are not there again")
         demand(at.rows_of("SELECT no, keep, gone, undone FROM slip") == [(12, 1, 2, 1)], "the slip is another one")
 
 
@@ -94,7 +94,7 @@ def with_many_events(at):
 
 
 def records(at):
-    return at.rows_of("SELECT no, kind FROM record ORDER BY no"), at.rows_of(RECORDS)
+    return at.rows_of("SELECT no, kind FROM record ORDER BY no"), each_line(at.rows_of(PACKS))
 
 
 def a_merge_of_many_events(tools, stops=8):

@@ -163,7 +163,7 @@ def no_archive(tools):
 def lines_of_no_record(tools):
     """40 where somebody else has spoilt a record, whichever sheet is asked for, and nothing is written."""
     with Shown(tools) as at:
-        at.with_rows(LEES).other_database("UPDATE line SET tag = 'frob' WHERE no = 3 AND pos = 0")
+        at.with_rows(LEES).other_database("UPDATE line SET tag = 'frob' WHERE no = 3")
         for kind in KINDS:
             expect(at.sheet(kind, 1), refused(40))
         expect(at.public(), refused(40))

@@ -12,6 +12,7 @@ from typing import NamedTuple
 
 from beside import link_of, links_of, sought_of
 from calendars import span_of
+from packed import lines_of, put_lines
 
 # What is in the archive: repository 1, places 2 and 3 (Ashby, Kent), source 4, persons 5, 6 and 7, family 8 of 6 and 7
 # with the child 5, events 9 and 14, citations 10 and 11, entries 12 and 13; of a file the note 15 and person 16.
@@ -55,15 +56,11 @@ class Tables:
         self.conn.execute(text, values)
 
     def lines(self, number: int) -> list[Line]:
-        text = "SELECT depth, tag, text, dst FROM line WHERE no = ? ORDER BY id"
-        return self.conn.execute(text, (number,)).fetchall()
+        return lines_of(self.conn, number)
 
     def put(self, number: int, lines: list[Line]) -> None:
         """The record of a number has these lines now, the span of its date, its links, and what it is looked for by."""
-        self.run("DELETE FROM line WHERE no = ?", number)
-        for place, line in enumerate(lines):
-            text = "INSERT INTO line (no, pos, depth, tag, text, dst) VALUES (?, ?, ?, ?, ?, ?)"
-            self.run(text, number, place, *line)
+        put_lines(self.conn, number, lines)
         self.run("DELETE FROM span WHERE no = ?", number)
         if (span := span_of(lines[0][1], lines)) is not None:
             self.run("INSERT INTO span VALUES (?, ?, ?)", number, *span)
@@ -72,6 +69,11 @@ class Tables:
         self.run("DELETE FROM sought WHERE no = ?", number)
         if (sought := sought_of(lines)) is not None:
             self.run("INSERT INTO sought VALUES (?, ?, ?)", number, *sought)
+
+    def packed(self, number: int, text: str | None) -> None:
+        """The row of a record has this packed text, and the number that it names a link: 1, or none."""
+        self.run("UPDATE line SET text = ? WHERE no = ?", text, number)
+        self.run("INSERT OR IGNORE INTO link VALUES (?)", link_of(number, 1))
 
     def changed(self, number: int, place: int, line: Line) -> None:
         """One line is another."""
@@ -124,6 +126,14 @@ def whole(number, *lines):
 
 def slip(side, number, *lines):
     return lambda tables: tables.put_slip(side, number, list(lines))
+
+
+def packed(name, spoilt, sound):
+    """A packed text of person 5 that no lines have, and one that lines have."""
+    def texts(text):
+        return lambda tables: tables.packed(5, text)
+
+    return Pair(name, "", "", texts(spoilt), texts(sound))
 
 
 def both(*changes):
@@ -248,10 +258,29 @@ PAIRS = (
     Pair("a carried CONC", "record 16", "a tag is CONC or CONT",
          change(16, 3, (2, "CONC", "7", None)), change(16, 3, (2, "CONX", "7", None))),
     Pair("a trailer", "record 15", "its tag is TRLR", other("TRLR", "a"), other("TRLX", "a")),
-    Pair("a text with CR", "", "", change(5, 1, (1, "name", "Ann\r/Lee/", None)),
+    Pair("a text with U+0000", "", "", change(5, 1, (1, "name", "Ann\0/Lee/", None)),
          change(5, 1, (1, "name", "Ann\n/Lee/", None))),
     Pair("a carried line at level 99", "record 16", "a line is below level 98",
          more(16, *chain(2, 99)), more(16, *chain(2, 98))),
+    # packed texts
+    packed("a packed text without LF at its end", "\n1 name Ann", "\n1 name Ann\n"),
+    packed("no packed text", None, "\n"),
+    packed("an empty packed text", "", "\n"),
+    packed("a first line without a space before its text", "x\n", "\n1 name x\n"),
+    packed("an empty line", "\n\n1 name Ann\n", "\n1 name \n"),
+    packed("a depth with a leading zero", "\n01 name Ann\n", "\n1 name 01\n"),
+    packed("a depth with a sign", "\n+1 name Ann\n", "\n1 name +1\n"),
+    packed("a depth of over 32 bits", "\n4294967297 name Ann\n", "\n1 name 4294967297\n"),
+    packed("a depth that does not fit", "\n2 name Ann\n", "\n1 carried\n2 NAMES Ann\n"),
+    packed("a tag that is none", "\n1 na-me Ann\n", "\n1 name na-me\n"),
+    packed("no tag", "\n1 \n", "\n1 name  \n"),
+    packed("a tag of 32 characters", f"\n1 carried\n2 {'A' * 32} x\n", f"\n1 carried\n2 {'A' * 31} x\n"),
+    packed("a number with a leading zero", "\n1 carried\n2 ASSO>01\n", "\n1 carried\n2 ASSO>1\n"),
+    packed("a number with a sign", "\n1 carried\n2 ASSO>+1\n", "\n1 carried\n2 ASSO +1\n"),
+    packed("a number of over 32 bits", "\n1 carried\n2 ASSO>4294967297\n", "\n1 carried\n2 ASSO 4294967297\n"),
+    packed("no number", "\n1 carried\n2 ASSO>\n", "\n1 carried\n2 ASSO >\n"),
+    Pair("the tag of another kind in the row", "", "", run("UPDATE line SET tag = 'frob' WHERE no = 5"),
+         run("UPDATE line SET pos = 3, depth = 9 WHERE no = 5")),
     # carried lines that a field would take
     Pair("a carried SEX", "record 16", "a carried line is one that a field would take",
          more(16, (2, "SEX", "M", None)), more(16, (2, "SEX", "X", None))),

@@ -188,15 +188,15 @@ def makes(file: str) -> Trial:
 
 IMPORT = f"s1|! import|{PERSONS}"
 STEPS = {
-    "600 persons by steps": (["begin", *["stage"] * 8, "publish"], True),
+    "600 persons by steps": (["begin", *["stage"] * 5, "publish"], True),
     "an import that is given up": (["begin", "stage", "stage", "abandon"], False),
-    "an import that is given up late": (["begin", *["stage"] * 5, "abandon"], False),
+    "an import that is given up late": (["begin", *["stage"] * 4, "abandon"], False),
 }
 GOOD = 1_000_000  # calls, more than are made
 TAKEN = range(0, 300, 4)  # calls after which a taking up may be stopped
 STOPPED = 4  # of these numbers so many are tried
 LEFT_AGAIN = "left and stopped after"
-LEFT = ALIKE + making.row("! steps", "log", GOOD, "|".join(["begin", *["stage"] * 5]), "", IMPORT)
+LEFT = ALIKE + making.row("! steps", "log", GOOD, "|".join(["begin", *["stage"] * 4]), "", IMPORT)
 
 
 def walks(name: str, names: list[str], is_published: bool, file: str) -> Trial:

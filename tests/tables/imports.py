@@ -1,6 +1,6 @@
 """Imports that are staged: what the tables have at each stage, what is seen of it, and how it is published or taken out
-again. A stage writes 256 rows: first those of `record`, then the lines, then the links, what is looked for, and the
-spans."""
+again. A stage writes 256 rows: first those of `record`, then those of `line`, then the links, what is looked for, and
+the spans."""
 
 from __future__ import annotations
 
@@ -72,38 +72,38 @@ class Importing(Filling):
 
 
 def places(count: int) -> dict[int, tuple[Line, ...]]:
-    """Places, of which each has three rows: one of `record`, one line, and one of what is looked for."""
+    """Places, of which each has three rows: of `record`, of `line`, and of what is looked for."""
     return {FIRST + at: place(f"Kent {at}") for at in range(count)}
 
 
 def births(count: int) -> dict[int, tuple[Line, ...]]:
-    """Events with a date, of which each has six rows, the last two of them of `link` and `span`; of every third the
+    """Events with a date, of which each has four rows, the last two of them of `link` and `span`; of every third the
     first day is open, of every third the last one."""
     dates = ("3 MAR 1799", "BEF 1700", "AFT @#DFRENCH R@ 8")
     return {FIRST + at: event(PERSON, "BIRT", dates[at % 3]) for at in range(count)}
 
 
 def named(count: int) -> tuple[Line, ...]:
-    """A person with so many names: a row of `record`, and a line more than there are names."""
+    """A person with so many names: a row of `record` and one of `line`, however many there are."""
     return (Line(0, "person"), *(Line(1, "name", f"Ann /Lee {at}/") for at in range(count)))
 
 
 # Imports by the number of their rows: none, the fewest of a record, and about one, two and three stages. What is looked
-# for begins within a stage and goes on into the next one (600), or has a stage of its own (384); so do the links (312),
-# and the spans behind them (768).
+# for begins within a stage and goes on into the next one (600), or has a stage of its own (384); the links begin within
+# one and go on (400), and so do the spans (768).
 IMPORTS = {
     0: {},
     2: {FIRST: named(0)},
     3: places(1),
+    4: {FIRST: named(699), 900: named(0)},
     255: places(85),
-    256: {**places(84), 900: named(2)},
+    256: {**places(84), 900: named(2), 901: named(0)},
     257: {**places(85), 900: named(0)},
     384: places(128),
     512: {**places(170), 900: named(0)},
     600: places(200),
-    701: {FIRST: named(699)},
-    312: births(52),
-    768: births(128),
+    400: births(100),
+    768: births(192),
 }
 
 
@@ -173,8 +173,7 @@ def again() -> Scene:
 
 def several() -> Scene:
     """Two batches are open, one with a person of 700 lines, and between them one is published."""
-    filling = opened(701)
-    filling.stage()
+    filling = opened(4)
     filling.stage()
     filling.note(20, place("Ashby"))
     filling.open(2, 1001)
@@ -185,8 +184,6 @@ def several() -> Scene:
     filling.note(33, (Line(0, "person"), *(Line(1, "name", "Ann /Lee/") for _ in range(256))))
     filling.note(34, (Line(0, "person"), *(Line(1, "name", "Ann /Lee/") for _ in range(255))))
     filling.open(7, 1002)
-    filling.stage()
-    filling.stage()
     filling.stage()
     filling.see_all({20: place("Ashby")}, (FIRST, 30, 33, 34))
     filling.compare()
@@ -223,7 +220,7 @@ def linked() -> Scene:
 
 
 def refused() -> Scene:
-    """A batch that is there, and a line that names no record: nothing of the stage is there."""
+    """A batch that is there, and one that is not. A line that names no record is staged: the database tests no link."""
     filling = Importing()
     filling.note(10, place("Kent"))
     filling.noted = {}
@@ -231,10 +228,8 @@ def refused() -> Scene:
     filling.ask("remove", wanted="80 Storage\n")
     filling.note(10, (Line(0, "family"), Line(1, "partner", "husband", 99)))
     filling.open(1, 11)
-    filling.ask("stage", wanted="80 Storage\n")
+    filling.stage()
     filling.compare()
-    # the import is as it was
-    filling.ask("stage", wanted="80 Storage\n")
     filling.remove()
     filling.see_all({}, (10, 99))
     return filling.scene("imports that are refused")
@@ -262,7 +257,7 @@ def short() -> Scene:
 def scenes():
     for rows in IMPORTS:
         yield published(rows)
-    for rows in (0, 3, 256, 257, 384, 600, 701, 312, 768):
+    for rows in (0, 3, 4, 256, 257, 384, 600, 400, 768):
         for stages in range(stages_of(rows) + 1):
             yield taken_out(rows, stages, "remove")
             yield taken_out(rows, stages, "clear")

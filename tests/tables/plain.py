@@ -4,12 +4,13 @@ which the program's own tables are compared, row by row and key by key."""
 from __future__ import annotations
 
 from calendars import span_of
+from packed import row_of
 from rows import Line, written
 
 # what `query` is asked of each table, and the columns that it shows
 QUERIES = {
     "record": "SELECT no, kind, batch FROM record ORDER BY no",
-    "line": "SELECT id, no, pos, depth, tag, text, dst FROM line ORDER BY id",
+    "line": "SELECT no, pos, depth, tag, text, dst FROM line ORDER BY no",
     "receipt": "SELECT id, token, digest, first, count FROM receipt ORDER BY id",
     "slip": "SELECT no, keep, gone, undone FROM slip ORDER BY no",
     "slip_line": "SELECT id, slip, side, no, pos, depth, tag, text, dst FROM slip_line ORDER BY id",
@@ -54,7 +55,7 @@ class Tables:
         self.society = society
         self.batches = {0: 0}
         self.records: dict[int, tuple[str, int]] = {}
-        self.lines: list[tuple[object, ...]] = []
+        self.packs: dict[int, tuple[object, ...]] = {}
         self.receipts: list[tuple[object, ...]] = []
         self.slips: dict[int, tuple[int, int, int]] = {}
         self.slip_lines: list[tuple[object, ...]] = []
@@ -64,9 +65,7 @@ class Tables:
 
     def put(self, number: int, lines: tuple[Line, ...]) -> None:
         self.records[number] = (lines[0].tag, 0)
-        self.lines = [row for row in self.lines if row[1] != number]
-        for place, line in enumerate(lines):
-            self.lines.append((following(self.lines), number, place, *fields(line)))
+        self.packs[number] = row_of(number, lines)
         self.spans.pop(number, None)
         if (span := span_of(lines[0].tag, lines)) is not None:
             self.spans[number] = span
@@ -76,7 +75,7 @@ class Tables:
             self.soughts[number] = sought
 
     def take(self, number: int) -> None:
-        self.lines = [row for row in self.lines if row[1] != number]
+        self.packs.pop(number, None)
         self.records.pop(number, None)
         self.spans.pop(number, None)
         self.soughts.pop(number, None)
@@ -105,7 +104,7 @@ class Tables:
             if table == "record":
                 self.records[number] = (row[0], batch)
             elif table == "line":
-                self.lines.append((following(self.lines), number, row[0], *fields(row[1])))
+                self.packs[number] = row_of(number, row[0])
             elif table == "link":
                 self.links.add(number)
             elif table == "sought":
@@ -119,7 +118,7 @@ class Tables:
 
     def remove(self, batch: int) -> None:
         gone = {number for number, (_, own) in self.records.items() if own == batch}
-        self.lines = [row for row in self.lines if row[1] not in gone]
+        self.packs = {number: row for number, row in self.packs.items() if number not in gone}
         self.records = {number: row for number, row in self.records.items() if number not in gone}
         self.spans = {number: span for number, span in self.spans.items() if number not in gone}
         self.soughts = {number: row for number, row in self.soughts.items() if number not in gone}
@@ -129,7 +128,7 @@ class Tables:
     def rows(self, table: str) -> list[tuple[object, ...]]:
         return {
             "record": [(number, *row) for number, row in sorted(self.records.items())],
-            "line": self.lines,
+            "line": [row for _, row in sorted(self.packs.items())],
             "receipt": self.receipts,
             "slip": [(number, *row) for number, row in sorted(self.slips.items())],
             "slip_line": self.slip_lines,
@@ -152,7 +151,7 @@ def rows_of(records: dict[int, tuple[Line, ...]]) -> list[tuple[object, ...]]:
     links = {key for number, lines in records.items() for key in links_of(number, lines)}
     return [
         *(("record", number, lines[0].tag) for number, lines in records.items()),
-        *(("line", number, at, line) for number, lines in records.items() for at, line in enumerate(lines)),
+        *(("line", number, lines) for number, lines in records.items()),
         *(("link", key) for key in sorted(links)),
         *(("sought", number, *sought) for number, sought in soughts.items() if sought is not None),
         *(("span", number, *span) for number, span in spans.items() if span is not None),

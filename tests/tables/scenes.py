@@ -4,6 +4,7 @@ from __future__ import annotations
 
 from typing import NamedTuple
 
+from packed import COLUMNS, literal
 from plain import QUERIES, Tables, pair
 from records import RECORDS
 from rows import Ask, Case, Line, given, kept, row
@@ -394,38 +395,68 @@ def entries_found() -> Scene:
 
 
 def dangling() -> Scene:
-    """A line that names no record is refused by the database, and nothing of its commit is there."""
+    """A line that names no record is written as it is, with its link: the database tests no link, `audit` does."""
+    family = (Line(0, "family"), Line(1, "partner", "husband", 7))
     filling = Filling()
-    filling.asks.extend(given((Line(0, "family"), Line(1, "partner", "husband", 7))))
-    filling.ask("plan", "put", 1)
-    filling.ask("write", 2, wanted="80 Storage\n")
+    filling.put(1, family)
+    filling.write(2)
     filling.read()
-    filling.see(1, None)
+    filling.see(1, family)
+    filling.ask("tables", "referrers", 7, wanted="referrers 1\n")
     return filling.scene("a line that names no record")
 
 
 MADE = Ask(row("create", SOCIETY), "")
 UNREADABLE = "40 BadStored\n"
-LINE = "INSERT INTO line (no, pos, depth, tag, text, dst) VALUES "
+LINE = f"INSERT INTO line ({COLUMNS}) VALUES "
 ONE = "INSERT INTO record VALUES (1, 'person', 0)"
 SLIP = "INSERT INTO slip VALUES (3, 1, 2, 0)"
 SLIP_LINE = "INSERT INTO slip_line (slip, side, no, pos, depth, tag) VALUES "
 RECEIPT = "INSERT INTO receipt (token, digest, first, count) VALUES "
 DIGEST = "x'" + "07" * 32 + "'"
 
+# the tag and the text of a row that are no lines of a record
+UNPACKED = (
+    ("a line of no kind", "nobody", "\n"),
+    ("a tag of the first line that is none", "per son", "\n"),
+    ("an empty text", "person", ""),
+    ("a first line without LF", "person", " x"),
+    ("a first line's text without its space", "person", "x\n"),
+    ("a last line without LF", "person", "\n1 name Ann"),
+    ("an empty line", "person", "\n\n1 name Ann\n"),
+    ("a line too deep", "person", "\n2 name x\n"),
+    ("a line at depth 0", "person", "\n0 name x\n"),
+    ("a depth with a leading zero", "person", "\n01 name x\n"),
+    ("a depth with a sign", "person", "\n+1 name x\n"),
+    ("a depth below 0", "person", "\n-1 name x\n"),
+    ("a depth of over 32 bits", "person", "\n4294967297 name x\n"),
+    ("a depth that is no number", "person", "\none name x\n"),
+    ("no depth", "person", "\nname x\n"),
+    ("a space before the depth", "person", "\n 1 name x\n"),
+    ("two spaces before the tag", "person", "\n1  name x\n"),
+    ("a tag that is none", "person", "\n1 na-me x\n"),
+    ("no tag", "person", "\n1 \n"),
+    ("a tag of 32 characters", "person", "\n1 carried\n2 " + "A" * 32 + " x\n"),
+    ("a number named with a leading zero", "family", "\n1 child>01\n"),
+    ("a number named with a sign", "family", "\n1 child>+1\n"),
+    ("a number named of over 32 bits", "family", "\n1 child>4294967296\n"),
+    ("no number behind the sign of one", "family", "\n1 child>\n"),
+    ("two numbers named", "family", "\n1 child>1>1\n"),
+)
+# bytes of packed texts that no literal can have
+ZERO, LONE = (b"\n1 name A\0n\n".hex(), b"\n1 name A\xffn\n".hex())
+
 # statements by somebody else, and what `load` answers then
 FOREIGN = (
     ("a record without lines", (ONE,), UNREADABLE),
-    ("a first line that is deeper", (ONE, LINE + "(1, 0, 1, 'person', NULL, NULL)"), UNREADABLE),
-    ("a line of no kind", (ONE, LINE + "(1, 0, 0, 'nobody', NULL, NULL)"), UNREADABLE),
-    ("a line too deep", (ONE, LINE + "(1, 0, 0, 'person', NULL, NULL), (1, 1, 2, 'name', 'x', NULL)"), UNREADABLE),
-    ("a tag that is none", (ONE, LINE + "(1, 0, 0, 'person', NULL, NULL), (1, 1, 1, 'a b', 'x', NULL)"), UNREADABLE),
-    (
-        "a text that is none",
-        (ONE, LINE + "(1, 0, 0, 'person', NULL, NULL), (1, 1, 1, 'name', 'x\r', NULL)"),
-        UNREADABLE,
-    ),
-    ("a depth below 0", (ONE, LINE + "(1, 0, -1, 'person', NULL, NULL)"), UNREADABLE),
+    *((name, (ONE, LINE + f"(1, 0, 0, {literal(tag)}, {literal(text)}, NULL)"), UNREADABLE)
+      for name, tag, text in UNPACKED),
+    ("no packed text", (ONE, LINE + "(1, 0, 0, 'person', NULL, NULL)"), UNREADABLE),
+    ("a text with U+0000", (ONE, LINE + f"(1, 0, 0, 'person', CAST(x'{ZERO}' AS TEXT), NULL)"), UNREADABLE),
+    ("a text that is no UTF-8", (ONE, LINE + f"(1, 0, 0, 'person', CAST(x'{LONE}' AS TEXT), NULL)"), UNREADABLE),
+    ("a number named above the greatest", (ONE, LINE + "(1, 0, 0, 'person', '\n', 4294967296)"), UNREADABLE),
+    ("a number named below 0", (ONE, LINE + "(1, 0, 0, 'person', '\n', -1)"), UNREADABLE),
+    ("a place and a depth that are not read", (ONE, LINE + "(1, -3, 9, 'person', '\n', NULL)"), ""),
     ("a number above the greatest", ("INSERT INTO record VALUES (4294967296, 'person', 0)",), UNREADABLE),
     ("a number below 0", ("INSERT INTO record VALUES (-1, 'person', 0)",), UNREADABLE),
     ("a batch number above the greatest", ("INSERT INTO batch VALUES (4294967296, 0)",), UNREADABLE),

@@ -24,7 +24,7 @@ shown_behind old one two mid b has first then last = (
     links = links_shown old one two mid b.spans b.links b.soughts has first then last;
     soughts = soughts_shown old one two mid b.spans b.links b.soughts has first then last;
   },
-  λ rows. rows_shown old one two mid b.spans b.links b.soughts has first then last (read_of rows),
+  λ rows. rows_shown old one two mid b.spans b.links b.soughts has first then last rows.has_spans (read_of rows),
 )
 
 pub shown_at : (old mid : State) (b : Beside) (c : Content) → ShowsBehind b old mid

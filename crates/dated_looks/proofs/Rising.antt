@@ -25,7 +25,7 @@ use Rattle.record_shapes.specs.Lists.{Ascends, EachOf}
 use Rattle.date_spans.specs.Between.{IsAmong}
 use Rattle.date_spans.proofs.Picked.{first_among, rest_among}
 use Rattle.store_tables.specs.Calls.{Settled}
-use Rattle.store_tables.specs.Rows.{HoldsLater, Rows, SpanRow}
+use Rattle.store_tables.specs.Rows.{HoldsOwn, Rows, SpanRow}
 use Rattle.store_rows.specs.Spans.{span_at}
 use Rattle.dated_looks.specs.Picking.{days_of, numbers_of}
 
@@ -41,8 +41,9 @@ rising (s ∷ ss) h = (above_each s.no ss h.0, rising ss h.1)
 -- those of settled tables ascend
 pub spans_rise : (s : _) (rows : Rows) → Settled s rows → rows.has_spans ≡ true → Ascends (numbers_of rows.spans)
 spans_rise s rows was has =
-    let held = subst (λ b. HoldsLater b rows.spans rows.links rows.soughts s.now.trees) has was.good.holds.later in
-    rising rows.spans held.spans_kept.rise
+    let held = subst (λ b. HoldsOwn b rows.lines rows.packs rows.spans rows.links rows.soughts s.now.trees) has
+    was.good.holds.own in
+    rising rows.spans held.1.spans_kept.rise
 
 -- a number that has a span is among them
 pub among_numbers : (n : ℕ) (ss : List SpanRow) (span : Span) → span_at n ss ≡ Some span → IsAmong n (numbers_of ss)

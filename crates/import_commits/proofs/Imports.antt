@@ -50,7 +50,7 @@ use Rattle.staged_rows.specs.Staging.{
   AreNew,
   IsFresh,
   StagedRow,
-  a_line,
+  a_pack,
   a_link,
   a_record,
   a_sought,
@@ -92,14 +92,14 @@ joined (x ∷ xs) ys zs = ap (λ ws. x ∷ ws) (joined xs ys zs)
 
 row_society : (x : StagedRow) (rows : Rows) → (with_staged_row x rows).society ≡ rows.society
 row_society (a_record r) rows = refl
-row_society (a_line n at l) rows = refl
+row_society (a_pack n ls) rows = refl
 row_society (a_link l) rows = refl
 row_society (a_sought n s) rows = refl
 row_society (a_span n span) rows = refl
 
 row_version : (x : StagedRow) (rows : Rows) → (with_staged_row x rows).version ≡ rows.version
 row_version (a_record r) rows = refl
-row_version (a_line n at l) rows = refl
+row_version (a_pack n ls) rows = refl
 row_version (a_link l) rows = refl
 row_version (a_sought n s) rows = refl
 row_version (a_span n span) rows = refl

@@ -8,7 +8,7 @@ use Rattle.archive_state.specs.Applied.{applied, with_puts, without}
 use Rattle.archive_state.specs.Changes.{Changes}
 use Rattle.archive_state.specs.Content.{Content, Records}
 use Rattle.archive_state.specs.declared.changes.Numbered.{Numbered}
-use Rattle.store_tables.specs.Rows.{LineRow, RecordRow, Rows}
+use Rattle.store_tables.specs.Rows.{LineRow, PackRow, RecordRow, Rows}
 use Rattle.store_rows.specs.Spans.{Drawn}
 use Rattle.store_rows.proofs.Got.{got_put}
 use Rattle.staged_rows.specs.Staging.{with_published, with_whole_import}
@@ -17,10 +17,11 @@ use Rattle.import_commits.specs.Commits.{IsAddition, IsBegun}
 use Rattle.import_commits.proofs.Imports.{published_is}
 use Rattle.list_laws.proofs.Numbers.{same_self}
 
--- the number has the same rows, each with its id
+-- the number has the same rows
 abbrev pub HasSameRows : ℕ → Rows → Rows → Type 0
 HasSameRows m before now =
     (filter (λ (l : LineRow). l.no == m) now.lines ≡ filter (λ (l : LineRow). l.no == m) before.lines)
+    × (filter (λ (p : PackRow). p.no == m) now.packs ≡ filter (λ (p : PackRow). p.no == m) before.packs)
     × (filter (λ (r : RecordRow). r.no == m) now.records ≡ filter (λ (r : RecordRow). r.no == m) before.records)
 
 -- ---- what is put is there

@@ -7,7 +7,7 @@ ghost use Rattle.archive_state.specs.Applied.{applied};
 ghost use Rattle.archive_state.specs.Changes.{Changes};
 ghost use Rattle.archive_state.specs.Content.{Content};
 ghost use Rattle.store_tables.specs.Calls.{Good};
-ghost use Rattle.store_tables.specs.Rows.{LineRow, RecordRow, Rows};
+ghost use Rattle.store_tables.specs.Rows.{LineRow, PackRow, RecordRow, Rows};
 ghost use Rattle.record_shapes.specs.Lists.{EachOf};
 ghost use Rattle.store_rows.specs.Links.{KeepsLinks};
 ghost use Rattle.store_rows.specs.Meaning.{AllShallow, Means, is_closed};
@@ -83,12 +83,14 @@ pub fn what_an_import_adds_can_be_read()
         → AllShallow c → AllShallow (applied c changes) }
 {}
 
-/// It leaves the rows of every number at which the archive then has what it had before, each line with its id.
+/// It leaves the rows of every number at which the archive then has what it had before.
 pub fn a_published_import_leaves_the_rows_of_other_numbers()
     ensures { (before rows : Rows) (i : Import) (c : Content) (m : ℕ) → IsBegun before i rows
         → IsAddition c i.changes → i.left ≡ [] → get c.records m ≡ get (applied c i.changes).records m
         → (filter (λ (l : LineRow). l.no == m) (with_published i.batch i.changes rows).lines ≡ filter
         (λ (l : LineRow). l.no == m) before.lines)
+        × (filter (λ (p : PackRow). p.no == m) (with_published i.batch i.changes rows).packs ≡ filter
+        (λ (p : PackRow). p.no == m) before.packs)
         × (filter (λ (r : RecordRow). r.no == m) (with_published i.batch i.changes rows).records ≡ filter
         (λ (r : RecordRow). r.no == m) before.records) }
 {

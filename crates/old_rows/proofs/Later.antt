@@ -1,27 +1,9 @@
 -- The span of each record that is written anew, what it is looked for by, and its links.
-use Rattle.std.proofs.Common.{
-  ◌≡◌,
-  ℕ,
-  true,
-  false,
-  List,
-  [],
-  ◌∷◌,
-  Option,
-  Some,
-  None,
-  refl,
-  sym,
-  ap,
-  ◌∙◌,
-  cond,
-  subst,
-}
+use Rattle.std.proofs.Common.{◌≡◌, ℕ, true, false, List, Option, Some, None, refl, sym, ap, ◌∙◌, cond, subst}
 use Rattle.std.specs.Prelude.{◌==◌}
 use Rattle.std.specs.List.{list_any}
 use Rattle.gedcom_date.specs.declared.value.Span.{Span}
 use Rattle.stored_lines.specs.Line.{Label}
-use Rattle.records.specs.Stored.{stored}
 use Rattle.record_links.specs.Links.{is_among, links}
 use Rattle.record_links.specs.Stored.{some_line_names}
 use Rattle.record_links.proofs.Stored.{lines_tell}
@@ -29,23 +11,15 @@ use Rattle.record_shapes.specs.Lists.{EachOf}
 use Rattle.date_spans.specs.Spans.{IsSpanOf, date_in}
 use Rattle.records_anew.specs.Anew.{anew}
 use Rattle.records_anew.specs.Old.{OldRecord, WasKeptAs}
-use Rattle.store_tables.specs.Rows.{LinkRow, Rows, SoughtRow, SpanRow}
-use Rattle.store_rows.specs.Links.{has_link, with_links}
+use Rattle.store_tables.specs.Rows.{Rows, SoughtRow, SpanRow}
+use Rattle.store_rows.specs.Links.{has_link}
 use Rattle.store_rows.specs.Sought.{Sought, sought_at, sought_of, with_sought_if}
 use Rattle.store_rows.specs.Spans.{span_at, with_span_if}
 use Rattle.store_rows.proofs.LinksRead.{lines_linked, lines_stay}
 use Rattle.store_rows.proofs.SoughtRead.{sought_put}
 use Rattle.store_rows.proofs.SpansAside.{links_only}
 use Rattle.store_rows.proofs.SpansRead.{span_put}
-use Rattle.old_rows.specs.Renewing.{
-  Anew,
-  IsAnewOf,
-  RecordAnew,
-  with_later_anew,
-  with_lines_anew,
-  with_record_anew,
-  with_records_anew,
-}
+use Rattle.old_rows.specs.Renewing.{IsAnewOf, RecordAnew, with_lines_anew, with_record_anew, with_records_anew}
 use Rattle.old_rows.proofs.Rest.{lines_only_anew, sought_only, span_only}
 use Rattle.old_rows.proofs.Written.{got_by_all}
 use Rattle.list_laws.proofs.Numbers.{it}

@@ -31,9 +31,9 @@ use Rattle.archive_state.specs.Slips.{Slip}
 use Rattle.archive_state.specs.declared.slip.Change.{Change}
 use Rattle.records_anew.specs.Anew.{IsAnew, OldChange, OldContent, OldSlip, anew, change_anew, slip_anew}
 use Rattle.records_anew.specs.Old.{OldRecord}
-use Rattle.store_tables.specs.Reading.{ReadRows, read_line, read_of, read_record, read_slip_line}
+use Rattle.store_tables.specs.Reading.{ReadRows, read_line, read_of, read_pack, read_record, read_slip_line}
 use Rattle.store_tables.specs.Rows.{Rows, SlipRow, lines_of, slip_lines_of, with_later_tables, with_version}
-use Rattle.store_rows.specs.Grouped.{is_recorded, items_at}
+use Rattle.store_rows.specs.Grouped.{is_recorded, items_at, stored_at}
 use Rattle.store_rows.specs.Meaning.{
   AllShallow,
   IsRecordAt,
@@ -48,7 +48,7 @@ use Rattle.store_rows.specs.Links.{AreLinked}
 use Rattle.store_rows.specs.Sides.{SideLine}
 use Rattle.store_rows.specs.Sought.{IsSought, sought_at}
 use Rattle.store_rows.specs.Spans.{IsSpanned, span_at}
-use Rattle.store_rows.proofs.StateMeant.{lines_same, recorded_same, slip_lines_same}
+use Rattle.store_rows.proofs.StateMeant.{recorded_same, slip_lines_same, stored_same}
 use Rattle.store_rows.proofs.StateRecords.{recorded_alike}
 use Rattle.old_rows.specs.Meaning.{AllShallowOld, IsShallowOld, IsShallowOldChange, MeansAnew, WasRecordAt, WasSlipAt}
 use Rattle.old_rows.specs.Reading.{AreChangesAnewOf, AreRecordsAnew, AreSlipsAnew, LacksOldChanges, LacksOldRecord}
@@ -151,6 +151,7 @@ module _ (rows : Rows) (renewal : Renewal) (read : IsReadOf rows renewal) (none 
     version = 2;
     has_spans = true;
     lines = mid.lines;
+    packs = mid.packs;
     spans = mid.spans;
     links = mid.links;
     soughts = mid.soughts;
@@ -169,7 +170,7 @@ module _ (rows : Rows) (renewal : Renewal) (read : IsReadOf rows renewal) (none 
   record_is n None now is was = subst (IsRecordAt flat n) (sym is) was
   record_is n (Some o) now is was = subst (IsRecordAt flat n) (sym is) (
     was.0,
-    lines_written (λ k. lines_of k rows) n o was.1 renewal.records undated read.records (read.all_records n was.0) refl,
+    lines_written (λ k. lines_of k rows) n o was.1 renewal.records undated read.records (read.all_records n was.0),
   )
 
   spanned_is : (n : ℕ) (found : Option OldRecord) (now : Option Record) → now ≡ option_map anew found
@@ -226,14 +227,14 @@ module _ (rows : Rows) (renewal : Renewal) (read : IsReadOf rows renewal) (none 
 
 module _ (rows : Rows) (closed : ℕ → Bool) (lines : ℕ → List (ℕ × Label)) (slip_lines : ℕ → List SideLine)
     (closed_is : (n : ℕ) → closed n ≡ is_closed n rows.batches)
-    (lines_are : (n : ℕ) → lines n ≡ items_at n (map read_line rows.lines))
+    (lines_are : (n : ℕ) → lines n ≡ stored_at (map read_line rows.lines) (map read_pack rows.packs) n)
     (slip_lines_are : (n : ℕ) → slip_lines n ≡ items_at n (map read_slip_line rows.slip_lines)) where
   has_is : (n : ℕ) → is_recorded closed (map read_record rows.records) n ≡ has_record n rows
   has_is n = recorded_alike closed (λ k. is_closed k rows.batches) closed_is (map read_record rows.records) n
       ∙ recorded_same (λ k. is_closed k rows.batches) n rows.records
 
   lines_at : (n : ℕ) → lines n ≡ lines_of n rows
-  lines_at n = lines_are n ∙ lines_same n rows.lines
+  lines_at n = lines_are n ∙ stored_same n rows
 
   slip_lines_at : (n : ℕ) → slip_lines n ≡ slip_lines_of n rows
   slip_lines_at n = slip_lines_are n ∙ slip_lines_same n rows.slip_lines
@@ -274,22 +275,22 @@ module _ (rows : Rows) (closed : ℕ → Bool) (lines : ℕ → List (ℕ × Lab
 -- the same of whatever was read as these
 pub read_by : (rows : Rows) (read : ReadRows) → read_of rows ≡ read → (closed : ℕ → Bool)
     (lines : ℕ → List (ℕ × Label)) (slip_lines : ℕ → List SideLine) → ((n : ℕ) → closed n ≡ is_closed n read.batches)
-    → ((n : ℕ) → lines n ≡ items_at n read.lines) → ((n : ℕ) → slip_lines n ≡ items_at n read.slip_lines)
+    → ((n : ℕ) → lines n ≡ stored_at read.lines read.packs n) → ((n : ℕ) → slip_lines n ≡ items_at n read.slip_lines)
     → (renewal : Renewal) → AreRecordsAnew closed lines read.records renewal.records
     → AreSlipsAnew slip_lines read.slips renewal.slips → IsReadOf rows renewal
 read_by rows read same = subst (λ (r : ReadRows). (closed : ℕ → Bool)
     (lines : ℕ → List (ℕ × Label)) (slip_lines : ℕ → List SideLine) → ((n : ℕ) → closed n ≡ is_closed n r.batches)
-    → ((n : ℕ) → lines n ≡ items_at n r.lines) → ((n : ℕ) → slip_lines n ≡ items_at n r.slip_lines)
+    → ((n : ℕ) → lines n ≡ stored_at r.lines r.packs n) → ((n : ℕ) → slip_lines n ≡ items_at n r.slip_lines)
     → (renewal : Renewal) → AreRecordsAnew closed lines r.records renewal.records
     → AreSlipsAnew slip_lines r.slips renewal.slips → IsReadOf rows renewal) same (read_of_rows rows)
 
 pub no_record_by : (rows : Rows) (read : ReadRows) → read_of rows ≡ read → (closed : ℕ → Bool)
     (lines : ℕ → List (ℕ × Label)) → ((n : ℕ) → closed n ≡ is_closed n read.batches)
-    → ((n : ℕ) → lines n ≡ items_at n read.lines) → LacksOldRecord closed read.records lines → (c : Content)
+    → ((n : ℕ) → lines n ≡ stored_at read.lines read.packs n) → LacksOldRecord closed read.records lines → (c : Content)
     → MeansAnew rows c → ⊥
 no_record_by rows read same = subst (λ (r : ReadRows). (closed : ℕ → Bool)
     (lines : ℕ → List (ℕ × Label)) → ((n : ℕ) → closed n ≡ is_closed n r.batches)
-    → ((n : ℕ) → lines n ≡ items_at n r.lines) → LacksOldRecord closed r.records lines → (c : Content)
+    → ((n : ℕ) → lines n ≡ stored_at r.lines r.packs n) → LacksOldRecord closed r.records lines → (c : Content)
     → MeansAnew rows c → ⊥) same
     (λ closed lines closed_is lines_are. no_record rows closed lines
     (λ n. items_at n (map read_slip_line rows.slip_lines)) closed_is lines_are (λ n. refl))
@@ -301,4 +302,5 @@ no_slip_by rows read same = subst (λ (r : ReadRows). (slip_lines : ℕ → List
     → ((n : ℕ) → slip_lines n ≡ items_at n r.slip_lines) → LacksOldChanges r.slips slip_lines → (c : Content)
     → MeansAnew rows c → ⊥) same
     (λ slip_lines slip_lines_are. no_slip rows (λ n. is_closed n rows.batches)
-    (λ n. items_at n (map read_line rows.lines)) slip_lines (λ n. refl) (λ n. refl) slip_lines_are)
+    (stored_at (map read_line rows.lines) (map read_pack rows.packs)) slip_lines (λ n. refl) (λ n. refl)
+    slip_lines_are)

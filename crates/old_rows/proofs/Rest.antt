@@ -20,12 +20,10 @@ use Rattle.std.proofs.Common.{
 }
 use Rattle.std.specs.List.{list_any}
 use Rattle.gedcom_date.specs.declared.value.Span.{Span}
-use Rattle.stored_lines.specs.Line.{Label}
-use Rattle.store_tables.specs.Rows.{Rows, with_changed_lines, with_slip_lines, without_lines, without_slip_lines}
+use Rattle.store_tables.specs.Rows.{Rows, with_slip_lines, without_slip_lines}
 use Rattle.store_rows.specs.Links.{with_links}
 use Rattle.store_rows.specs.Sought.{Sought, with_sought_if}
 use Rattle.store_rows.specs.Spans.{with_span_if}
-use Rattle.store_rows.proofs.Puts as puts
 use Rattle.store_rows.proofs.Slips as slips
 use Rattle.store_rows.proofs.SpansAside.{links_only}
 use Rattle.old_rows.specs.Renewing.{
@@ -43,22 +41,10 @@ use Rattle.old_rows.specs.Renewing.{
 }
 
 -- ---- records
-changed_only : (n : ℕ) (ls : List (ℕ × Label)) (rows : Rows) → with_changed_lines n ls rows
-    ≡ record rows { lines = (with_changed_lines n ls rows).lines }
-changed_only n ls rows = puts.lines_only n 0 ls (without_lines n rows)
-
-abbrev with_lines_if : Bool → ℕ → List (ℕ × Label) → Rows → Rows
-with_lines_if b n ls rows = cond b (with_changed_lines n ls rows) rows
-
-lines_if_only : (b : Bool) (n : ℕ) (ls : List (ℕ × Label)) (rows : Rows) → with_lines_if b n ls rows
-    ≡ record rows { lines = (with_lines_if b n ls rows).lines }
-lines_if_only true n ls rows = changed_only n ls rows
-lines_if_only false n ls rows = refl
-
 -- the lines of a record change no other table
 pub lines_only_anew : (r : RecordAnew) (rows : Rows) → with_lines_anew r rows
-    ≡ record rows { lines = (with_lines_anew r rows).lines }
-lines_only_anew r rows = lines_if_only r.anew.has_changed r.number r.anew.lines rows
+    ≡ record rows { lines = (with_lines_anew r rows).lines; packs = (with_lines_anew r rows).packs }
+lines_only_anew r rows = refl
 
 pub span_only : (n : ℕ) (span : Option Span) (rows : Rows) → with_span_if n span rows
     ≡ record rows { spans = (with_span_if n span rows).spans }
@@ -87,10 +73,14 @@ later_only n a rows =
 pub later_lines : (n : ℕ) (a : Anew) (rows : Rows) → (with_later_anew n a rows).lines ≡ rows.lines
 later_lines n a rows = ap (λ (r : Rows). r.lines) (later_only n a rows)
 
+pub later_packs : (n : ℕ) (a : Anew) (rows : Rows) → (with_later_anew n a rows).packs ≡ rows.packs
+later_packs n a rows = ap (λ (r : Rows). r.packs) (later_only n a rows)
+
 -- and with the lines of other rows too
 abbrev pub alike : Rows → Rows → Rows
 alike other rows = record rows {
   lines = other.lines;
+  packs = other.packs;
   spans = other.spans;
   links = other.links;
   soughts = other.soughts;
@@ -100,8 +90,8 @@ record_only : (r : RecordAnew) (rows : Rows) → with_record_anew r rows ≡ ali
 record_only r rows =
     let mid : Rows = with_lines_anew r rows in
     let after : Rows = with_record_anew r rows in
-    let is : after ≡ record (like after rows) { lines = mid.lines } = later_only r.number r.anew mid
-    ∙ ap (like after) (lines_if_only r.anew.has_changed r.number r.anew.lines rows) in
+    let is : after ≡ record (like after rows) { lines = mid.lines; packs = mid.packs } =
+    later_only r.number r.anew mid in
     subst (λ (x : Rows). x ≡ alike x rows) (sym is) refl
 
 pub records_only : (rs : List RecordAnew) (rows : Rows) → with_records_anew rs rows
@@ -149,7 +139,3 @@ record_keeps r rows has = ap (λ (x : Rows). x.has_spans) (record_only r rows) �
 pub span_keeps : (n : ℕ) (span : Option Span) (rows : Rows) → rows.has_spans ≡ true
     → (with_span_if n span rows).has_spans ≡ true
 span_keeps n span rows has = ap (λ (x : Rows). x.has_spans) (span_only n span rows) ∙ has
-
-pub lines_keep : (b : Bool) (n : ℕ) (ls : List (ℕ × Label)) (rows : Rows) → rows.has_spans ≡ true
-    → (cond b (with_changed_lines n ls rows) rows).has_spans ≡ true
-lines_keep b n ls rows has = ap (λ (x : Rows). x.has_spans) (lines_if_only b n ls rows) ∙ has

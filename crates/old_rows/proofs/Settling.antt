@@ -5,7 +5,7 @@ use Rattle.sqlite.specs.State.{Shows, State}
 use Rattle.sqlite.specs.Tree.{Trees}
 use Rattle.archive_state.specs.Content.{Content}
 use Rattle.store_tables.specs.Calls.{FollowsUndated, Good, Settled}
-use Rattle.store_tables.specs.Rows.{HoldsLater, Rows}
+use Rattle.store_tables.specs.Rows.{HoldsOwn, Rows}
 use Rattle.old_rows.specs.Renewing.{IsRenewed, LeavesEither, LeavesRenewed}
 
 pub settles : (old mid new : State) (f : Rows → Rows) (rows : Rows)
@@ -22,16 +22,14 @@ settles old mid new f rows follows shows none was =
       good = subst (Good (f rows)) (sym (ap (λ (d : Database). d.trees) shows.now_is)) inside.good;
     }
 
--- tables of the first schema have no spans, no links, and nothing that is looked for
-none_later : (rows : Rows) (t : Trees) → Good rows t → rows.has_spans ≡ false
-    → (rows.spans ≡ []) × (rows.links ≡ []) × (rows.soughts ≡ [])
-none_later rows t good none = subst (λ b. HoldsLater b rows.spans rows.links rows.soughts t) none good.holds.later
-
+-- tables of the first schema have no spans, and nothing that is looked for
 pub no_spans : (rows : Rows) (t : Trees) → Good rows t → rows.has_spans ≡ false → rows.spans ≡ []
-no_spans rows t good none = (none_later rows t good none).0
+no_spans rows t good none =
+    (subst (λ b. HoldsOwn b rows.lines rows.packs rows.spans rows.links rows.soughts t) none good.holds.own).2
 
 pub no_soughts : (rows : Rows) (t : Trees) → Good rows t → rows.has_spans ≡ false → rows.soughts ≡ []
-no_soughts rows t good none = (none_later rows t good none).2
+no_soughts rows t good none =
+    (subst (λ b. HoldsOwn b rows.lines rows.packs rows.spans rows.links rows.soughts t) none good.holds.own).4
 
 -- what a stop may leave of one renewal, and of any
 pub left : (s : State) (rows after : Rows) (c : Content) → IsRenewed rows c after → LeavesEither s rows after

@@ -11,9 +11,6 @@ use Rattle.std.proofs.Common.{
   ◌∷◌,
   ◌++◌,
   map,
-  Option,
-  Some,
-  None,
   refl,
   sym,
   ap,
@@ -36,7 +33,6 @@ use Rattle.store_tables.specs.Rows.{
   lines_of,
   slip_line_of,
   slip_lines_of,
-  with_changed_lines,
   with_slip_lines,
   without_slip_lines,
 }
@@ -59,7 +55,7 @@ use Rattle.old_rows.specs.Renewing.{
   with_slip_anew,
   with_slips_anew,
 }
-use Rattle.old_rows.proofs.Rest.{later_lines}
+use Rattle.old_rows.proofs.Rest.{later_lines, later_packs}
 use Rattle.list_laws.proofs.Numbers.{it, not_it}
 
 -- ---- items of numbers, one after the other: what waits for the first of a number is got by it, and is kept
@@ -94,59 +90,39 @@ module _ (lines : ℕ → List (ℕ × Label)) (n : ℕ) (o : OldRecord) (was : 
   at_it r is e = subst (λ k. IsAnewOf (lines k) r.anew) (it r.number n e) is
 
   lines_after : (r : RecordAnew) (now : Rows) → lines_of n (with_record_anew r now)
-      ≡ cond r.anew.has_changed (cond (r.number == n) r.anew.lines (lines_of n now)) (lines_of n now)
+      ≡ cond (r.number == n) r.anew.lines (lines_of n now)
   lines_after r now =
       lines_under (with_record_anew r now) (with_lines_anew r now)
-      (later_lines r.number r.anew (with_lines_anew r now))
-      ∙ (elim r.anew.has_changed as (λ b. lines_of n (cond b (with_changed_lines r.number r.anew.lines now) now)
-      ≡ cond b (cond (r.number == n) r.anew.lines (lines_of n now)) (lines_of n now)) [
-        | true ↦ line_put n r.number r.anew.lines now
-        | false ↦ refl
-      ])
+      (later_lines r.number r.anew (with_lines_anew r now)) (later_packs r.number r.anew (with_lines_anew r now))
+      ∙ line_put n r.number r.anew.lines now
     where
-      lines_under : (a b : Rows) → a.lines ≡ b.lines → lines_of n a ≡ lines_of n b
-      lines_under a b e i = lines_of n (record b { lines = e i })
+      lines_under : (a b : Rows) → a.lines ≡ b.lines → a.packs ≡ b.packs → lines_of n a ≡ lines_of n b
+      lines_under a b e f i = lines_of n (record b { lines = e i; packs = f i })
 
   abbrev HasLines : Rows → Type 0
   HasLines now = lines_of n now ≡ stored (anew o)
 
-  abbrev HadLines : Rows → Type 0
-  HadLines now = lines_of n now ≡ lines n
+  abbrev IsAny : Rows → Type 0
+  IsAny now = Unit {0}
 
   lines_kept : (r : RecordAnew) (now : Rows) → IsRead r → HasLines now → HasLines (with_record_anew r now)
   lines_kept r now is here = lines_after r now
-      ∙ (elim r.anew.has_changed as (λ b. cond b (cond (r.number == n) r.anew.lines (lines_of n now)) (lines_of n now)
-      ≡ stored (anew o)) [
-        | true ↦ elim (r.number == n) as (λ b. (r.number == n) ≡ b
-            → cond b r.anew.lines (lines_of n now) ≡ stored (anew o)) [
-              | true ↦ λ e. (at_it r is e).kept o was
-              | false ↦ λ e. here
-            ] refl
-        | false ↦ here
-      ])
-
-  lines_got : (r : RecordAnew) (now : Rows) → IsRead r → (r.number == n) ≡ true → HadLines now
-      → HasLines (with_record_anew r now)
-  lines_got r now is e here = lines_after r now
-      ∙ (elim r.anew.has_changed as (λ b. r.anew.has_changed ≡ b
-      → cond b (cond (r.number == n) r.anew.lines (lines_of n now)) (lines_of n now) ≡ stored (anew o)) [
-        | true ↦ λ _. ap (λ b. cond b r.anew.lines (lines_of n now)) e ∙ (at_it r is e).kept o was
-        | false ↦ λ none. here ∙ sym ((at_it r is e).same none) ∙ (at_it r is e).kept o was
+      ∙ (elim (r.number == n) as (λ b. (r.number == n) ≡ b → cond b r.anew.lines (lines_of n now) ≡ stored (anew o)) [
+        | true ↦ λ e. (at_it r is e).kept o was
+        | false ↦ λ e. here
       ] refl)
 
-  lines_wait : (r : RecordAnew) (now : Rows) → IsRead r → (r.number == n) ≡ false → HadLines now
-      → HadLines (with_record_anew r now)
-  lines_wait r now is e here = lines_after r now
-      ∙ ap (λ b. cond r.anew.has_changed (cond b r.anew.lines (lines_of n now)) (lines_of n now)) e
-      ∙ (elim r.anew.has_changed as (λ b. cond b (lines_of n now) (lines_of n now) ≡ lines n)
-      [ true ↦ here | false ↦ here ])
+  lines_got : (r : RecordAnew) (now : Rows) → IsRead r → (r.number == n) ≡ true → IsAny now
+      → HasLines (with_record_anew r now)
+  lines_got r now is e any = lines_after r now ∙ ap (λ b. cond b r.anew.lines (lines_of n now)) e
+      ∙ (at_it r is e).kept o was
 
   pub lines_written : (rs : List RecordAnew) (now : Rows) → EachOf IsRead rs
-      → list_any (λ (r : RecordAnew). r.number == n) rs ≡ true → lines_of n now ≡ lines n
+      → list_any (λ (r : RecordAnew). r.number == n) rs ≡ true
       → lines_of n (with_records_anew rs now) ≡ stored (anew o)
-  lines_written rs now each some here =
-      got_by_all (λ (r : RecordAnew). r.number) IsRead with_record_anew HasLines HadLines n lines_kept lines_got
-      lines_wait with_records_anew (λ _. refl) (λ _ _ _. refl) rs now each some here
+  lines_written rs now each some =
+      got_by_all (λ (r : RecordAnew). r.number) IsRead with_record_anew HasLines IsAny n lines_kept lines_got
+      (λ r k is e any. tt) with_records_anew (λ _. refl) (λ _ _ _. refl) rs now each some tt
 
 -- ---- the lines of a slip
 sides_more : (n : ℕ) (ss : List SideAnew) (rows : Rows) → slip_lines_of n (with_sides_anew n ss rows)

@@ -59,9 +59,9 @@ pub record IsAnewOf (lines : List (ℕ × Label)) (a : Anew) : Type 0 where
   pub same : a.has_changed ≡ false → a.lines ≡ lines
 
 -- ---- what is written
--- a record that stays keeps its lines
+-- the lines of a record
 abbrev pub with_lines_anew : RecordAnew → Rows → Rows
-with_lines_anew r rows = cond r.anew.has_changed (with_changed_lines r.number r.anew.lines rows) rows
+with_lines_anew r rows = with_changed_lines r.number r.anew.lines rows
 
 -- what goes with a record of a number: its span, what it is looked for by, and its links
 abbrev pub with_later_anew : ℕ → Anew → Rows → Rows

@@ -50,13 +50,14 @@ pub fn renewal_of(alloc: Global, read: StoredRows) -> Result<Renewal, RefusalKin
         batches,
         records,
         lines,
+        packs,
         receipts,
         slips,
         slip_lines,
     } = read;
     drop(receipts);
     let closed = closed_batches(alloc, &batches)?;
-    let groups = grouped_lines(alloc, lines)?;
+    let groups = grouped_lines(alloc, lines, packs)?;
     let records = records_anew(alloc, &closed, &groups, &records)?;
     let slip_groups = grouped_slip_lines(alloc, slip_lines)?;
     let slips = slips_anew(alloc, &slip_groups, &slips)?;

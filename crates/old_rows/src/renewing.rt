@@ -40,7 +40,7 @@ pub fn renew<S: Alter>(alloc: Global, conn: &mut Connection<S>) -> Result<(), Re
 {
     let read = read_rows(alloc, conn)?;
     let renewal = renewal_of(alloc, read)?;
-    match commit_renewal(conn, &renewal) {
+    match commit_renewal(alloc, conn, &renewal) {
         Ok(()) => Ok(()),
         Err(_) => Err(RefusalKind::Storage),
     }
@@ -48,7 +48,11 @@ pub fn renew<S: Alter>(alloc: Global, conn: &mut Connection<S>) -> Result<(), Re
 
 /// Writes what is read anew in one commit.
 #[tactic(auto, using(crate::proofs::Settling::settles))]
-fn commit_renewal<S: Alter>(conn: &mut Connection<S>, renewal: &Renewal) -> Result<(), Error>
+fn commit_renewal<S: Alter>(
+    alloc: Global,
+    conn: &mut Connection<S>,
+    renewal: &Renewal,
+) -> Result<(), Error>
     requires autocommit { conn.old.in_transaction ≡ false }
     ensures done { HasCleanDisk (state S.Store conn.new) → OnOk result ((rows : Rows) → rows.has_spans ≡ false
         → Settled (state S.Store conn.old) rows
@@ -60,6 +64,6 @@ fn commit_renewal<S: Alter>(conn: &mut Connection<S>, renewal: &Renewal) -> Resu
     ensures ended { conn.new.in_transaction ≡ false }
 {
     let mut tx = conn.transaction();
-    write_renewal(&mut tx, renewal)?;
+    write_renewal(alloc, &mut tx, renewal)?;
     tx.commit()
 }

@@ -1,10 +1,10 @@
 //! What is read anew, written as rows inside a transaction.
 
-ghost use Rattle.std.specs.Prelude.{◌≡◌, cond};
+ghost use Rattle.std.specs.Prelude.{◌≡◌};
 ghost use Rattle.std.specs.List.{list_any};
 ghost use Rattle.sqlite.specs.Held.{state};
 ghost use Rattle.store_tables.specs.Calls.{LeavesAsBefore, Writes, WritesDated, WritesUndated};
-ghost use Rattle.store_tables.specs.Rows.{with_changed_lines, with_slip_lines};
+ghost use Rattle.store_tables.specs.Rows.{with_slip_lines};
 ghost use Rattle.store_rows.specs.Sought.{with_sought_if};
 ghost use Rattle.store_rows.specs.Spans.{with_span_if};
 ghost use Rattle.old_rows.specs.Renewing.{
@@ -21,14 +21,19 @@ ghost use Rattle.old_rows.specs.Renewing.{
 use crate::anew::{Anew, RecordAnew, Renewal, SideAnew, SlipAnew};
 use date_spans::Span;
 use sqlite::{Alter, Error, Transaction};
+use std::alloc::Global;
 use store_rows::{SoughtText, link_lines};
 use store_tables::lines::{change_lines, insert_slip_lines};
 use store_tables::{create_later_tables, rows, soughts, spans};
 
-/// Writes what is read anew in tables of the first version: the tables that the second one has beside and its number,
-/// each record that changes, the spans, what is looked for, the links, and each slip of which a record changes. After
+/// Writes what is read anew in tables of the first version: the tables that the second one has and its number, the
+/// lines of each record, the spans, what is looked for, the links, and each slip of which a record changes. After
 /// an error the transaction is to be given up.
-pub fn write_renewal<S: Alter>(tx: &mut Transaction<'_, S>, renewal: &Renewal) -> Result<(), Error>
+pub fn write_renewal<S: Alter>(
+    alloc: Global,
+    tx: &mut Transaction<'_, S>,
+    renewal: &Renewal,
+) -> Result<(), Error>
     ensures same_reference { tx.new.conn.ghost_name ≡ tx.old.conn.ghost_name }
     ensures ok { WritesUndated (state S.Store tx.old.conn.now) (state S.Store tx.new.conn.now)
         result (with_renewal renewal.now) }
@@ -36,56 +41,55 @@ pub fn write_renewal<S: Alter>(tx: &mut Transaction<'_, S>, renewal: &Renewal) -
 {
     create_later_tables(tx)?;
     spans::set_version(tx)?;
-    write_records(tx, &renewal.records)?;
+    write_records(alloc, tx, &renewal.records)?;
     write_slips(tx, &renewal.slips)
 }
 
-/// The lines of the records that change, and all spans, all that is looked for and all links.
-fn write_records<S: Alter>(tx: &mut Transaction<'_, S>, records: &[RecordAnew]) -> Result<(), Error>
+/// The lines of the records, and all spans, all that is looked for and all links.
+fn write_records<S: Alter>(
+    alloc: Global,
+    tx: &mut Transaction<'_, S>,
+    records: &[RecordAnew],
+) -> Result<(), Error>
     ensures same_reference { tx.new.conn.ghost_name ≡ tx.old.conn.ghost_name }
     ensures ok { WritesDated (state S.Store tx.old.conn.now) (state S.Store tx.new.conn.now)
         result (with_records_anew records.now) }
     ensures survives { LeavesAsBefore (state S.Store tx.old.conn.now) (state S.Store tx.new.conn.now) }
 {
     'records: for record in records {
-        write_record(tx, record)?;
+        write_record(alloc, tx, record)?;
     }
     Ok(())
 }
 
-/// The lines of a record, where they change, its span, what it is looked for by, and its links.
-fn write_record<S: Alter>(tx: &mut Transaction<'_, S>, record: &RecordAnew) -> Result<(), Error>
+/// The lines of a record, its span, what it is looked for by, and its links.
+fn write_record<S: Alter>(
+    alloc: Global,
+    tx: &mut Transaction<'_, S>,
+    record: &RecordAnew,
+) -> Result<(), Error>
     ensures same_reference { tx.new.conn.ghost_name ≡ tx.old.conn.ghost_name }
     ensures ok { WritesDated (state S.Store tx.old.conn.now) (state S.Store tx.new.conn.now)
         result (with_record_anew «record».now) }
     ensures survives { LeavesAsBefore (state S.Store tx.old.conn.now) (state S.Store tx.new.conn.now) }
 {
-    write_anew(tx, record.number, &record.anew)
+    write_anew(alloc, tx, record.number, &record.anew)
 }
 
 /// The same of a number.
-fn write_anew<S: Alter>(tx: &mut Transaction<'_, S>, number: u32, anew: &Anew) -> Result<(), Error>
+fn write_anew<S: Alter>(
+    alloc: Global,
+    tx: &mut Transaction<'_, S>,
+    number: u32,
+    anew: &Anew,
+) -> Result<(), Error>
     ensures same_reference { tx.new.conn.ghost_name ≡ tx.old.conn.ghost_name }
     ensures ok { WritesDated (state S.Store tx.old.conn.now) (state S.Store tx.new.conn.now)
         result (with_record_anew (record { number = number; anew = anew.now })) }
     ensures survives { LeavesAsBefore (state S.Store tx.old.conn.now) (state S.Store tx.new.conn.now) }
 {
-    write_lines(tx, number, anew)?;
+    change_lines(alloc, tx, number, &anew.lines)?;
     write_later(tx, number, anew)
-}
-
-/// The lines of a record, where they are others than they were.
-fn write_lines<S: Alter>(tx: &mut Transaction<'_, S>, number: u32, anew: &Anew) -> Result<(), Error>
-    ensures same_reference { tx.new.conn.ghost_name ≡ tx.old.conn.ghost_name }
-    ensures ok { Writes (state S.Store tx.old.conn.now) (state S.Store tx.new.conn.now)
-        result (λ rows. cond anew.now.has_changed (with_changed_lines number anew.now.lines rows) rows) }
-    ensures survives { LeavesAsBefore (state S.Store tx.old.conn.now) (state S.Store tx.new.conn.now) }
-{
-    if anew.has_changed {
-        change_lines(tx, number, &anew.lines)
-    } else {
-        Ok(())
-    }
 }
 
 /// The span of a record, what it is looked for by, and its links.

@@ -13,6 +13,7 @@ use Rattle.store_tables.specs.Rows.{
   RecordRow,
   LineRow,
   LinkRow,
+  PackRow,
   SlipLineRow,
   SoughtRow,
   SpanRow,
@@ -128,6 +129,26 @@ seen_alike bs rs ls ss rows closed has lines spans = record {
   recorded = has;
   lines = lines;
   spans = spans;
+  links = λ n target has. refl;
+  soughts = λ n has. refl;
+}
+
+-- other rows with all lines
+pub seen_packed : (ps : List PackRow) (rows : Rows)
+    → ((n : ℕ) → has_record n rows ≡ true → lines_of n (record rows { packs = ps }) ≡ lines_of n rows)
+    → IsSeenAs rows (record rows { packs = ps })
+seen_packed ps rows lines = record {
+  version = refl;
+  has_spans = refl;
+  next = refl;
+  society = refl;
+  receipts = refl;
+  slips = refl;
+  slip_lines = refl;
+  batch = refl;
+  recorded = λ n. refl;
+  lines = lines;
+  spans = λ n has. refl;
   links = λ n target has. refl;
   soughts = λ n has. refl;
 }

@@ -7,7 +7,7 @@ use Rattle.record_shapes.specs.Lists.{EachOf}
 use Rattle.archive_state.specs.Content.{Content}
 use Rattle.archive_state.specs.declared.changes.Numbered.{Numbered}
 use Rattle.store_tables.specs.Batches.{AreOwned}
-use Rattle.store_tables.specs.Rows.{Rows, BatchRow, RecordRow, LineRow, SoughtRow, SpanRow}
+use Rattle.store_tables.specs.Rows.{Rows, BatchRow, RecordRow, LineRow, PackRow, SoughtRow, SpanRow}
 use Rattle.store_rows.specs.Meaning.{Means, has_record, is_closed}
 use Rattle.staged_rows.specs.Staging.{AreAllClosed, AreClosed, IsFresh, numbers_of}
 use Rattle.staged_rows.proofs.Alike.{absent, none_closed}
@@ -90,6 +90,8 @@ fresh batch ps rows c closed unused new was = record {
   numbers = no_rows ps rows c closed was new;
   lines = none_of_puts (λ (l : LineRow). l.no) rows.records ps rows.lines (no_rows ps rows c closed was new)
       closed.lines;
+  packs = none_of_puts (λ (p : PackRow). p.no) rows.records ps rows.packs (no_rows ps rows c closed was new)
+      closed.packs;
   spans = none_of_puts (λ (s : SpanRow). s.no) rows.records ps rows.spans (no_rows ps rows c closed was new)
       closed.spans;
   soughts = none_of_puts (λ (s : SoughtRow). s.no) rows.records ps rows.soughts (no_rows ps rows c closed was new)
@@ -111,6 +113,7 @@ of_closed bs (r ∷ rs) closed all = (is_there r.batch bs closed ∙ all.0, of_c
 pub all_of_closed : (rows : Rows) → AreOwned rows → AreAllClosed rows → AreClosed rows
 all_of_closed rows owned closed = record {
   lines = owned.lines;
+  packs = owned.packs;
   records = of_closed rows.batches rows.records closed owned.records;
   spans = owned.spans;
   soughts = owned.soughts;

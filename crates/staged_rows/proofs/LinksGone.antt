@@ -31,9 +31,7 @@ use Rattle.std.proofs.Common.{
 use Rattle.std.specs.Prelude.{◌||◌}
 use Rattle.std.specs.List.{flat_map, list_any}
 use Rattle.std.proofs.lemmas.List.{length-append}
-use Rattle.stored_lines.specs.Line.{Label}
 use Rattle.gedcom_date.specs.declared.value.Span.{Span}
-use Rattle.records.specs.Stored.{stored}
 use Rattle.archive_state.specs.declared.changes.Numbered.{Numbered}
 use Rattle.store_rows.specs.Sought.{Sought, sought_of}
 use Rattle.store_rows.specs.Spans.{Drawn}
@@ -48,13 +46,12 @@ use Rattle.staged_rows.specs.Removing.{links_among}
 use Rattle.staged_rows.specs.Staging.{
   AreNew,
   StagedRow,
-  a_line,
+  a_pack,
   a_link,
   a_record,
   a_sought,
   a_span,
   later_rows,
-  lines_from,
   lines_of_put,
   links_of,
   record_of,
@@ -159,7 +156,7 @@ pub links_staged : (rs : List StagedRow) (rows : Rows) → (with_staged rs rows)
     ≡ links_put (links_among rs) rows.links
 links_staged [] rows = refl
 links_staged (a_record r ∷ rs) rows = links_staged rs (with_staged_row (a_record r) rows)
-links_staged (a_line n at l ∷ rs) rows = links_staged rs (with_staged_row (a_line n at l) rows)
+links_staged (a_pack n ls ∷ rs) rows = links_staged rs (with_staged_row (a_pack n ls) rows)
 links_staged (a_link l ∷ rs) rows = links_staged rs (with_staged_row (a_link l) rows)
 links_staged (a_sought n s ∷ rs) rows = links_staged rs (with_staged_row (a_sought n s) rows)
 links_staged (a_span n span ∷ rs) rows = links_staged rs (with_staged_row (a_span n span) rows)
@@ -171,7 +168,7 @@ before_put t n l ks none = or_second (is_pair t n l) (has_link t n ks) (sym (put
 pub new_are_free : (rs : List StagedRow) (rows : Rows) → AreNew rs rows → AreFree (links_among rs) rows.links
 new_are_free [] rows new = tt
 new_are_free (a_record r ∷ rs) rows new = new_are_free rs (with_staged_row (a_record r) rows) new.1
-new_are_free (a_line n at l ∷ rs) rows new = new_are_free rs (with_staged_row (a_line n at l) rows) new.1
+new_are_free (a_pack n ls ∷ rs) rows new = new_are_free rs (with_staged_row (a_pack n ls) rows) new.1
 new_are_free (a_link l ∷ rs) rows new = (
   new.0,
   each_more (λ (k : LinkRow). has_link k.target k.no (with_staged_row (a_link l) rows).links ≡ false)
@@ -186,7 +183,7 @@ new_are_free (a_span n span ∷ rs) rows new = new_are_free rs (with_staged_row 
 pub among_both : (xs ys : List StagedRow) → links_among (xs ++ ys) ≡ links_among xs ++ links_among ys
 among_both [] ys = refl
 among_both (a_record r ∷ xs) ys = among_both xs ys
-among_both (a_line n at l ∷ xs) ys = among_both xs ys
+among_both (a_pack n ls ∷ xs) ys = among_both xs ys
 among_both (a_link l ∷ xs) ys = ap (λ ls. l ∷ ls) (among_both xs ys)
 among_both (a_sought n s ∷ xs) ys = among_both xs ys
 among_both (a_span n span ∷ xs) ys = among_both xs ys
@@ -202,15 +199,9 @@ pub among_records : (batch : ℕ) (ps : List Numbered) → links_among (map (rec
 among_records batch [] = refl
 among_records batch (p ∷ ps) = among_records batch ps
 
-pub among_lines : (n at : ℕ) (ls : List (ℕ × Label)) → links_among (lines_from n at ls) ≡ []
-among_lines n at [] = refl
-among_lines n at (l ∷ ls) = among_lines n (at + 1) ls
-
-pub among_all_lines : (ps : List Numbered) → links_among (flat_map lines_of_put ps) ≡ []
+pub among_all_lines : (ps : List Numbered) → links_among (map lines_of_put ps) ≡ []
 among_all_lines [] = refl
-among_all_lines (p ∷ ps) =
-    none_in_front (lines_of_put p) (flat_map lines_of_put ps) (among_lines p.number 0 (stored p.«record»))
-    ∙ among_all_lines ps
+among_all_lines (p ∷ ps) = among_all_lines ps
 
 pub among_links : (ls : List LinkRow) → links_among (map a_link ls) ≡ ls
 among_links [] = refl
@@ -238,8 +229,8 @@ pub among_import : (batch : ℕ) (ps : List Numbered) (drawn : Drawn) → links_
     ≡ links_of ps
 among_import batch ps drawn =
     let behind = flat_map sought_row ps ++ flat_map span_row drawn in
-    none_in_front (map (record_of batch) ps) (flat_map lines_of_put ps ++ later_rows ps drawn) (among_records batch ps)
-    ∙ none_in_front (flat_map lines_of_put ps) (later_rows ps drawn) (among_all_lines ps)
+    none_in_front (map (record_of batch) ps) (map lines_of_put ps ++ later_rows ps drawn) (among_records batch ps)
+    ∙ none_in_front (map lines_of_put ps) (later_rows ps drawn) (among_all_lines ps)
     ∙ none_behind (map a_link (links_of ps)) behind
     (none_in_front (flat_map sought_row ps) (flat_map span_row drawn) (among_soughts ps) ∙ among_spans drawn)
     ∙ among_links (links_of ps)

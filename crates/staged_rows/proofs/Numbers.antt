@@ -1,5 +1,5 @@
 -- The number of each row of an import.
-use Rattle.std.proofs.Common.{◌≡◌, ℕ, ◌+◌, true, List, [], ◌∷◌, ◌++◌, map, sym, ap, subst, arith}
+use Rattle.std.proofs.Common.{◌≡◌, ℕ, true, List, [], ◌∷◌, ◌++◌, map, sym, ap, subst, arith}
 use Rattle.std.specs.Prelude.{◌==◌, ◌||◌, Option, Some, None}
 use Rattle.std.specs.List.{flat_map, list_any}
 use Rattle.std.proofs.lemmas.Bool.Decides.{nat_tests}
@@ -14,13 +14,12 @@ use Rattle.store_rows.specs.Spans.{AreDrawn, Drawn}
 use Rattle.staged_rows.specs.Staging.{
   StagedRow,
   a_record,
-  a_line,
+  a_pack,
   a_link,
   a_sought,
   a_span,
   later_rows,
   record_of,
-  lines_from,
   lines_of_put,
   links_of,
   numbers_of,
@@ -35,7 +34,7 @@ use Rattle.list_laws.proofs.Booleans.{or_right}
 
 abbrev pub number_of : StagedRow → ℕ
 number_of (a_record r) = r.no
-number_of (a_line n at l) = n
+number_of (a_pack n ls) = n
 number_of (a_link l) = l.no
 number_of (a_sought n s) = n
 number_of (a_span n span) = n
@@ -47,16 +46,10 @@ module _ (P : ℕ → Type 0) (Q : StagedRow → Type 0) where
   of_records batch is [] all = tt
   of_records batch is (p ∷ ps) all = (is p all.0, of_records batch is ps all.1)
 
-  of_lines : (n at : ℕ) (ls : List (ℕ × Label)) → ((at : ℕ) (l : ℕ × Label) → Q (a_line n at l))
-      → EachOf Q (lines_from n at ls)
-  of_lines n at [] is = tt
-  of_lines n at (l ∷ ls) is = (is at l, of_lines n (at + 1) ls is)
-
-  of_all_lines : ((n at : ℕ) (l : ℕ × Label) → P n → Q (a_line n at l)) → (ps : List Numbered)
-      → EachOf (λ (p : Numbered). P p.number) ps → EachOf Q (flat_map lines_of_put ps)
+  of_all_lines : ((n : ℕ) (ls : List (ℕ × Label)) → P n → Q (a_pack n ls)) → (ps : List Numbered)
+      → EachOf (λ (p : Numbered). P p.number) ps → EachOf Q (map lines_of_put ps)
   of_all_lines is [] all = tt
-  of_all_lines is (p ∷ ps) all = each_both Q (lines_of_put p) (flat_map lines_of_put ps)
-      (of_lines p.number 0 (stored p.«record») (λ at l. is p.number at l all.0)) (of_all_lines is ps all.1)
+  of_all_lines is (p ∷ ps) all = (is p.number (stored p.«record») all.0, of_all_lines is ps all.1)
 
   of_span : (n : ℕ) (o : Option Span) → ((span : Span) → Q (a_span n span)) → EachOf Q (span_row (n, o))
   of_span n None is = tt
@@ -112,16 +105,16 @@ module _ (P : ℕ → Type 0) (Q : StagedRow → Type 0) where
       (each_has _ (λ p. soughts_are p.number) ps) (of_any_spans spans_are drawn)
 
   pub of_rows : (batch : ℕ) → ((p : Numbered) → P p.number → Q (record_of batch p))
-      → ((n at : ℕ) (l : ℕ × Label) → P n → Q (a_line n at l)) → (ps : List Numbered) (drawn : Drawn)
+      → ((n : ℕ) (ls : List (ℕ × Label)) → P n → Q (a_pack n ls)) → (ps : List Numbered) (drawn : Drawn)
       → EachOf Q (later_rows ps drawn) → EachOf (λ (p : Numbered). P p.number) ps
       → EachOf Q (rows_of_import batch ps drawn)
   of_rows batch records_are lines_are ps drawn later all =
-      each_both Q (map (record_of batch) ps) (flat_map lines_of_put ps ++ later_rows ps drawn)
+      each_both Q (map (record_of batch) ps) (map lines_of_put ps ++ later_rows ps drawn)
       (of_records batch records_are ps all)
-      (each_both Q (flat_map lines_of_put ps) (later_rows ps drawn) (of_all_lines lines_are ps all) later)
+      (each_both Q (map lines_of_put ps) (later_rows ps drawn) (of_all_lines lines_are ps all) later)
 
   pub of_all_rows : (batch : ℕ) → ((p : Numbered) → P p.number → Q (record_of batch p))
-      → ((n at : ℕ) (l : ℕ × Label) → P n → Q (a_line n at l)) → ((l : LinkRow) → P l.no → Q (a_link l))
+      → ((n : ℕ) (ls : List (ℕ × Label)) → P n → Q (a_pack n ls)) → ((l : LinkRow) → P l.no → Q (a_link l))
       → ((n : ℕ) (s : Sought) → P n → Q (a_sought n s)) → ((n : ℕ) (span : Span) → P n → Q (a_span n span))
       → (ps : List Numbered) (drawn : Drawn) → AreDrawn ps drawn → EachOf (λ (p : Numbered). P p.number) ps
       → EachOf Q (rows_of_import batch ps drawn)
@@ -138,7 +131,7 @@ module _ (P : ℕ → Type 0) (Q : StagedRow → Type 0) where
 module _ (P : ℕ → Type 0) where
   pub of_import : (batch : ℕ) (ps : List Numbered) (drawn : Drawn) → AreDrawn ps drawn
       → EachOf (λ (p : Numbered). P p.number) ps → EachOf (λ r. P (number_of r)) (rows_of_import batch ps drawn)
-  of_import batch ps drawn are all = of_all_rows P (λ r. P (number_of r)) batch (λ p is. is) (λ n at l is. is)
+  of_import batch ps drawn are all = of_all_rows P (λ r. P (number_of r)) batch (λ p is. is) (λ n ls is. is)
       (λ l is. is) (λ n s is. is) (λ n span is. is) ps drawn are all
 
   pub of_numbers : (ps : List Numbered) → EachOf (λ (p : Numbered). P p.number) ps → EachOf P (numbers_of ps)

@@ -58,6 +58,7 @@ use Rattle.staged_rows.proofs.Whole.{
   Later,
   beside,
   import_staged,
+  no_lines,
   later_in,
   later_put,
   one_span,
@@ -201,7 +202,8 @@ pub whole_is : (batch next : ℕ) (ps : List Numbered) (drawn : Drawn) (answer :
     (later_put ps drawn (later_in rows)) (with_kept_written kept (with_next next (with_all_lines ps rows)))
 whole_is batch next ps drawn answer kept rows once fresh =
     ap (λ (r : Rows). with_published batch (import_changes ps next answer kept) r)
-    (import_staged batch ps drawn (with_batch batch true rows).batches rows once fresh.lines)
+    (import_staged batch ps drawn (with_batch batch true rows).batches rows once
+    (no_lines rows ps fresh.lines fresh.packs))
     ∙ published_wholly kept next (closed_batches batch rows.batches) (records_put batch ps rows.records)
     (later_put ps drawn (later_in rows)) (with_all_lines ps rows)
 

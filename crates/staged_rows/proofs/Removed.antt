@@ -1,11 +1,14 @@
 -- Rows that no record has, taken out: it is not seen.
-use Rattle.std.proofs.Common.{◌≡◌, ℕ, Bool, true, false, not, cond, filter, map, refl, sym, ap, ◌∙◌}
+use Rattle.std.proofs.Common.{◌≡◌, ℕ, Bool, true, false, not, List, ◌++◌, cond, filter, map, refl, sym, ap, ◌∙◌}
 use Rattle.std.specs.Prelude.{◌==◌, ◌&&◌, None}
+use Rattle.std.specs.List.{flat_map}
+use Rattle.stored_lines.specs.Line.{Label}
 use Rattle.store_tables.specs.Rows.{
   Rows,
   BatchRow,
   RecordRow,
   LineRow,
+  PackRow,
   without_batch_row,
   without_link,
   without_record_row,
@@ -16,31 +19,43 @@ use Rattle.store_rows.specs.Sought.{sought_at}
 use Rattle.store_rows.proofs.SoughtRead.{sought_removed}
 use Rattle.store_rows.specs.Meaning.{has_record, is_closed}
 use Rattle.staged_rows.specs.Removing.{IsSeenAs}
-use Rattle.staged_rows.proofs.Alike.{differ, seen_alike, seen_linked, seen_sought}
+use Rattle.staged_rows.proofs.Alike.{differ, seen_alike, seen_linked, seen_packed, seen_sought}
 use Rattle.staged_rows.proofs.Links.{kept_elsewhere}
 use Rattle.staged_rows.proofs.Lists.{any_kept, none_kept, filter_kept}
 use Rattle.staged_rows.proofs.Spans.{span_kept}
 use Rattle.list_laws.proofs.Numbers.{is_not, it}
 use Rattle.list_laws.proofs.Lists.{any_alike}
 
-unlike : (l : LineRow) (stays : LineRow → Bool) (m : ℕ) (rows : Rows)
-    → (stays l ≡ false → has_record l.no rows ≡ false) → has_record m rows ≡ true → stays l ≡ false
-    → (l.no == m) ≡ false
-unlike l stays m rows h has gone =
-    elim (l.no == m) as (λ b. (l.no == m) ≡ b → b ≡ false) [
+unlike : (n : ℕ) (stays : Bool) (m : ℕ) (rows : Rows) → (stays ≡ false → has_record n rows ≡ false)
+    → has_record m rows ≡ true → stays ≡ false → (n == m) ≡ false
+unlike n stays m rows h has gone =
+    elim (n == m) as (λ b. (n == m) ≡ b → b ≡ false) [
       | true ↦ λ e.
-          let here = ap (λ n. has_record n rows) (sym (it l.no m e)) in
+          let here = ap (λ k. has_record k rows) (sym (it n m e)) in
           absurd (let both : true ≡ false = sym has ∙ here ∙ h gone in cc)
       | false ↦ λ e. refl
     ] refl
+
+-- the stored lines of rows with one line and of rows with all lines
+abbrev all_of : List LineRow → List PackRow → List (ℕ × Label)
+all_of ls ps = map (λ (l : LineRow). l.line) ls ++ flat_map (λ (p : PackRow). p.lines) ps
 
 pub lines_gone : (stays : LineRow → Bool) (rows : Rows)
     → ((l : LineRow) → stays l ≡ false → has_record l.no rows ≡ false)
     → IsSeenAs rows (record rows { lines = filter stays rows.lines })
 lines_gone stays rows h =
     seen_alike rows.batches rows.records (filter stays rows.lines) rows.spans rows refl (λ n. refl)
-    (λ m has. ap (map (λ (l : LineRow). l.line)) (filter_kept (λ (l : LineRow). l.no == m) stays
-    (λ l. unlike l stays m rows (h l) has) rows.lines)) (λ m has. refl)
+    (λ m has. ap (λ ls. all_of ls (filter (λ (p : PackRow). p.no == m) rows.packs))
+    (filter_kept (λ (l : LineRow). l.no == m) stays (λ l. unlike l.no (stays l) m rows (h l) has) rows.lines))
+    (λ m has. refl)
+
+pub packs_gone : (stays : PackRow → Bool) (rows : Rows)
+    → ((p : PackRow) → stays p ≡ false → has_record p.no rows ≡ false)
+    → IsSeenAs rows (record rows { packs = filter stays rows.packs })
+packs_gone stays rows h =
+    seen_packed (filter stays rows.packs) rows
+    (λ m has. ap (all_of (filter (λ (l : LineRow). l.no == m) rows.lines))
+    (filter_kept (λ (p : PackRow). p.no == m) stays (λ p. unlike p.no (stays p) m rows (h p) has) rows.packs))
 
 pub span_gone : (n : ℕ) (rows : Rows) → has_record n rows ≡ false → IsSeenAs rows (without_span n rows)
 span_gone n rows none =

@@ -12,6 +12,7 @@ use Rattle.std.proofs.Common.{
   ◌∷◌,
   ◌++◌,
   cond,
+  filter,
   map,
   refl,
   sym,
@@ -19,6 +20,7 @@ use Rattle.std.proofs.Common.{
   ◌∙◌,
 }
 use Rattle.std.specs.Prelude.{◌==◌, ◌&&◌, Some, take}
+use Rattle.std.specs.List.{flat_map}
 use Rattle.stored_lines.specs.Line.{Label}
 use Rattle.gedcom_date.specs.declared.value.Span.{Span}
 use Rattle.record_shapes.specs.Lists.{EachOf}
@@ -29,12 +31,12 @@ use Rattle.store_tables.specs.Rows.{
   RecordRow,
   LineRow,
   LinkRow,
+  PackRow,
   SpanRow,
-  next_key,
   put_by,
   with_batch,
-  with_line,
   with_link,
+  with_pack,
   with_record_row,
   with_sought,
   with_span,
@@ -47,7 +49,7 @@ use Rattle.staged_rows.specs.Removing.{AreAside, IsSeenAs}
 use Rattle.staged_rows.specs.Staging.{
   StagedRow,
   a_record,
-  a_line,
+  a_pack,
   a_link,
   a_sought,
   a_span,
@@ -57,9 +59,9 @@ use Rattle.staged_rows.specs.Staging.{
   with_staged,
   with_open_import,
 }
-use Rattle.staged_rows.proofs.Alike.{differ, seen_alike, seen_linked, seen_sought, seen_then}
+use Rattle.staged_rows.proofs.Alike.{differ, seen_alike, seen_linked, seen_packed, seen_sought, seen_then}
 use Rattle.staged_rows.proofs.Links as links
-use Rattle.staged_rows.proofs.Lists.{any_put, none_put, filter_behind}
+use Rattle.staged_rows.proofs.Lists.{any_put, none_put, filter_put}
 use Rattle.staged_rows.proofs.Numbers.{each_number, of_all_rows}
 use Rattle.staged_rows.proofs.Spans.{put_elsewhere}
 use Rattle.list_laws.proofs.Numbers.{is_not, it, not_it}
@@ -106,18 +108,14 @@ record_staged n kind batch rows unclosed none =
       | false ↦ λ e. any_put key m (λ (r : RecordRow). is_closed r.batch rows.batches) row rows.records (not_it n m e)
     ] refl) (λ m has. refl) (λ m has. refl)
 
-line_staged : (n at : ℕ) (line : ℕ × Label) (rows : Rows) → has_record n rows ≡ false
-    → IsSeenAs rows (with_line n at line rows)
-line_staged n at line rows none =
-    let row : LineRow = record { id = next_key (λ (l : LineRow). l.id) rows.lines; no = n; at = at; line = line } in
-    seen_alike rows.batches rows.records (rows.lines ++ row ∷ []) rows.spans rows refl (λ m. refl)
-    (λ m has. ap (map (λ (l : LineRow). l.line)) (filter_behind (λ (l : LineRow). l.no == m) rows.lines row
-    (elim (n == m) as (λ b. (n == m) ≡ b → b ≡ false) [
-      | true ↦ λ e.
-          let here = ap (λ k. has_record k rows) (sym (it n m e)) in
-          absurd (let both : true ≡ false = sym has ∙ here ∙ none in cc)
-      | false ↦ λ e. refl
-    ] refl))) (λ m has. refl)
+pack_staged : (n : ℕ) (ls : List (ℕ × Label)) (rows : Rows) → has_record n rows ≡ false
+    → IsSeenAs rows (with_pack n ls rows)
+pack_staged n ls rows none =
+    seen_packed (with_pack n ls rows).packs rows
+    (λ m has. ap (λ ps. map (λ (l : LineRow). l.line) (filter (λ (l : LineRow). l.no == m) rows.lines)
+    ++ flat_map (λ (p : PackRow). p.lines) ps)
+    (filter_put (λ (p : PackRow). p.no) (λ (p : PackRow). p.no == m) (record { no = n; lines = ls })
+    (λ y same. ap (λ k. k == m) same ∙ is_not n m (differ n m rows none has)) rows.packs))
 
 span_staged : (n : ℕ) (span : Span) (rows : Rows) → has_record n rows ≡ false
     → IsSeenAs rows (with_span n span.lo span.hi rows)
@@ -143,7 +141,7 @@ sought_staged n s rows none =
 -- a row of the batch, of a number that has no record in these rows
 abbrev IsAsideOf : ℕ → Rows → StagedRow → Type 0
 IsAsideOf batch rows (a_record r) = (r.batch ≡ batch) × (has_record r.no rows ≡ false)
-IsAsideOf batch rows (a_line n at l) = has_record n rows ≡ false
+IsAsideOf batch rows (a_pack n ls) = has_record n rows ≡ false
 IsAsideOf batch rows (a_link l) = has_record l.no rows ≡ false
 IsAsideOf batch rows (a_sought n s) = has_record n rows ≡ false
 IsAsideOf batch rows (a_span n span) = has_record n rows ≡ false
@@ -152,15 +150,14 @@ row_staged : (batch : ℕ) (r : StagedRow) (before rows : Rows) → is_closed ba
     → IsAsideOf batch before r → IsSeenAs before rows → IsSeenAs rows (with_staged_row r rows)
 row_staged batch (a_record r) before rows unclosed aside seen = record_staged r.no r.kind r.batch rows
     (ap (λ b. is_closed b rows.batches) aside.0 ∙ unclosed) (seen.recorded r.no ∙ aside.1)
-row_staged batch (a_line n at line) before rows unclosed aside seen =
-    line_staged n at line rows (seen.recorded n ∙ aside)
+row_staged batch (a_pack n ls) before rows unclosed aside seen = pack_staged n ls rows (seen.recorded n ∙ aside)
 row_staged batch (a_link l) before rows unclosed aside seen = link_staged l rows (seen.recorded l.no ∙ aside)
 row_staged batch (a_sought n s) before rows unclosed aside seen = sought_staged n s rows (seen.recorded n ∙ aside)
 row_staged batch (a_span n span) before rows unclosed aside seen = span_staged n span rows (seen.recorded n ∙ aside)
 
 pub batches_stay : (r : StagedRow) (rows : Rows) → (with_staged_row r rows).batches ≡ rows.batches
 batches_stay (a_record r) rows = refl
-batches_stay (a_line n at line) rows = refl
+batches_stay (a_pack n ls) rows = refl
 batches_stay (a_link l) rows = refl
 batches_stay (a_sought n s) rows = refl
 batches_stay (a_span n span) rows = refl
@@ -187,7 +184,7 @@ open_import batch count ps drawn rows none aside are =
     all_staged batch (take count (rows_of_import batch ps drawn)) rows (with_batch batch true rows)
     (still_closed batch rows none batch ∙ none)
     (each_taken (IsAsideOf batch rows) count (rows_of_import batch ps drawn)
-    (of_all_rows has_none (IsAsideOf batch rows) batch (λ p is. (refl, is)) (λ n at l is. is) (λ l is. is)
+    (of_all_rows has_none (IsAsideOf batch rows) batch (λ p is. (refl, is)) (λ n ls is. is) (λ l is. is)
     (λ n s is. is)
     (λ n span is. is) ps drawn are (each_number has_none ps aside)))
     (batch_opened batch rows none)

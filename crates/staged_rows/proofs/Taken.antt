@@ -33,7 +33,9 @@ use Rattle.store_tables.specs.Rows.{
   RecordRow,
   LineRow,
   LinkRow,
+  PackRow,
   is_line_from,
+  is_pack_from,
   without_lines,
   without_lines_from,
   without_link,
@@ -53,6 +55,7 @@ use Rattle.staged_rows.proofs.Removed.{
   left_out,
   lines_gone,
   link_gone,
+  packs_gone,
   record_gone,
   sought_gone,
   span_gone,
@@ -66,13 +69,23 @@ of_that true b h = refl
 of_that false b h = absurd cc
 
 pub line_out : (n : ℕ) (rows : Rows) → has_record n rows ≡ false → IsSeenAs rows (without_lines n rows)
-line_out n rows none = lines_gone (λ (l : LineRow). not (l.no == n)) rows
-    (λ l out. ap (λ k. has_record k rows) (left_out l.no n out) ∙ none)
+line_out n rows none =
+    let less : Rows = record rows { lines = filter (λ (l : LineRow). not (l.no == n)) rows.lines } in
+    seen_then rows less (without_lines n rows)
+    (lines_gone (λ (l : LineRow). not (l.no == n)) rows
+    (λ l out. ap (λ k. has_record k rows) (left_out l.no n out) ∙ none))
+    (packs_gone (λ (p : PackRow). not (p.no == n)) less
+    (λ p out. ap (λ k. has_record k rows) (left_out p.no n out) ∙ none))
 
 pub lines_from_out : (n at : ℕ) (rows : Rows) → has_record n rows ≡ false
     → IsSeenAs rows (without_lines_from n at rows)
-lines_from_out n at rows none = lines_gone (λ l. not (is_line_from n at l)) rows
-    (λ l out. ap (λ k. has_record k rows) (it l.no n (of_that (l.no == n) _ out)) ∙ none)
+lines_from_out n at rows none =
+    let less : Rows = record rows { lines = filter (λ l. not (is_line_from n at l)) rows.lines } in
+    seen_then rows less (without_lines_from n at rows)
+    (lines_gone (λ l. not (is_line_from n at l)) rows
+    (λ l out. ap (λ k. has_record k rows) (it l.no n (of_that (l.no == n) _ out)) ∙ none))
+    (packs_gone (λ p. not (is_pack_from n at p)) less
+    (λ p out. ap (λ k. has_record k rows) (it p.no n (of_that (p.no == n) _ out)) ∙ none))
 
 -- behind rows that are seen as those of before
 module _ (before : Rows) where

@@ -1,27 +1,7 @@
 -- All rows of an import are the lines that its puts would be written as, a row of `record` for each, their links, what
 -- they are looked for by, and their spans.
-use Rattle.std.proofs.Common.{
-  ◌≡◌,
-  ◌≢◌,
-  ℕ,
-  ◌+◌,
-  Bool,
-  false,
-  not,
-  List,
-  [],
-  ◌∷◌,
-  ◌++◌,
-  map,
-  filter,
-  cond,
-  refl,
-  sym,
-  ap,
-  ap₂,
-  ◌∙◌,
-}
-use Rattle.std.specs.Prelude.{◌==◌, ◌||◌, Option, Some, None}
+use Rattle.std.proofs.Common.{◌≡◌, ℕ, false, not, List, [], ◌∷◌, ◌++◌, map, filter, cond, refl, sym, ap, ap₂, ◌∙◌}
+use Rattle.std.specs.Prelude.{◌==◌, Option, Some, None}
 use Rattle.std.specs.List.{flat_map, list_any}
 use Rattle.stored_lines.specs.Line.{Label}
 use Rattle.gedcom_date.specs.declared.value.Span.{Span}
@@ -34,13 +14,12 @@ use Rattle.store_tables.specs.Rows.{
   RecordRow,
   LineRow,
   LinkRow,
+  PackRow,
   SoughtRow,
   SpanRow,
-  next_key,
   put_by,
   put_pair,
-  with_line,
-  with_lines,
+  with_pack,
   without_lines,
   with_changed_lines,
 }
@@ -52,7 +31,6 @@ use Rattle.staged_rows.specs.Staging.{
   a_link,
   later_rows,
   record_of,
-  lines_from,
   lines_of_put,
   links_of,
   numbers_of,
@@ -63,13 +41,14 @@ use Rattle.staged_rows.specs.Staging.{
   with_staged,
   with_staged_row,
 }
-use Rattle.staged_rows.proofs.Lists.{none_kept}
+use Rattle.staged_rows.proofs.Lists.{none_put}
 use Rattle.list_laws.proofs.Numbers.{is_not, not_it}
 use Rattle.list_laws.proofs.Booleans.{or_first, or_second}
 
--- a number has no line
+-- a number has no row with lines
 abbrev pub HasNoLine : Rows → ℕ → Type 0
-HasNoLine rows n = list_any (λ (l : LineRow). l.no == n) rows.lines ≡ false
+HasNoLine rows n = (list_any (λ (l : LineRow). l.no == n) rows.lines ≡ false)
+    × (list_any (λ (p : PackRow). p.no == n) rows.packs ≡ false)
 
 pub joined : (xs ys : List StagedRow) (rows : Rows) → with_staged (xs ++ ys) rows ≡ with_staged ys (with_staged xs rows)
 joined [] ys rows = refl
@@ -92,76 +71,53 @@ records_written [] rows = refl
 records_written (p ∷ ps) rows = records_written ps (with_staged_row (record_of 0 p) rows)
 
 -- ---- lines
-pub one_staged : (n at : ℕ) (ls : List (ℕ × Label)) (rows : Rows) → with_staged (lines_from n at ls) rows
-    ≡ with_lines n at ls rows
-one_staged n at [] rows = refl
-one_staged n at (l ∷ ls) rows = one_staged n (at + 1) ls (with_line n at l rows)
-
-pub all_stay : (n : ℕ) (ls : List LineRow) → list_any (λ (l : LineRow). l.no == n) ls ≡ false
-    → filter (λ (l : LineRow). not (l.no == n)) ls ≡ ls
-all_stay n [] none = refl
-all_stay n (l ∷ ls) none =
-    let off = or_first (l.no == n) (list_any (λ (l : LineRow). l.no == n) ls) none in
-    let more = or_second (l.no == n) (list_any (λ (l : LineRow). l.no == n) ls) none in
-    ap (λ b. cond (not b) (l ∷ filter (λ (l : LineRow). not (l.no == n)) ls)
-    (filter (λ (l : LineRow). not (l.no == n)) ls)) off ∙ ap (λ ks. l ∷ ks) (all_stay n ls more)
+module _ {X : Type 0} (key : X → ℕ) where
+  all_stay : (n : ℕ) (xs : List X) → list_any (λ x. key x == n) xs ≡ false → filter (λ x. not (key x == n)) xs ≡ xs
+  all_stay n [] none = refl
+  all_stay n (x ∷ xs) none =
+      let off = or_first (key x == n) (list_any (λ y. key y == n) xs) none in
+      let more = or_second (key x == n) (list_any (λ y. key y == n) xs) none in
+      ap (λ b. cond (not b) (x ∷ filter (λ y. not (key y == n)) xs) (filter (λ y. not (key y == n)) xs)) off
+      ∙ ap (λ ys. x ∷ ys) (all_stay n xs more)
 
 pub nothing_removed : (n : ℕ) (rows : Rows) → HasNoLine rows n → without_lines n rows ≡ rows
-nothing_removed n rows none = ap (λ (ls : List LineRow). record rows { lines = ls }) (all_stay n rows.lines none)
-
-none_behind : (q : LineRow → Bool) (ls : List LineRow) (l : LineRow) → list_any q ls ≡ false → q l ≡ false
-    → list_any q (ls ++ l ∷ []) ≡ false
-none_behind q [] l none off = ap (λ b. b || false) off
-none_behind q (k ∷ ks) l none off =
-    ap₂ (λ a b. a || b) (or_first (q k) (list_any q ks) none)
-    (none_behind q ks l (or_second (q k) (list_any q ks) none) off)
-
-none_elsewhere : (m n at : ℕ) (ls : List (ℕ × Label)) (rows : Rows) → n ≢ m → HasNoLine rows m
-    → HasNoLine (with_lines n at ls rows) m
-none_elsewhere m n at [] rows off none = none
-none_elsewhere m n at (l ∷ ls) rows off none =
-    none_elsewhere m n (at + 1) ls (with_line n at l rows) off
-    (none_behind (λ (k : LineRow). k.no == m) rows.lines
-    (record { id = next_key (λ (k : LineRow). k.id) rows.lines; no = n; at = at; line = l }) none (is_not n m off))
+nothing_removed n rows none =
+    ap₂ (λ (ls : List LineRow) (ps : List PackRow). record rows { lines = ls; packs = ps })
+    (all_stay (λ (l : LineRow). l.no) n rows.lines none.0)
+    (all_stay (λ (p : PackRow). p.no) n rows.packs none.1)
 
 still_none : (n : ℕ) (ls : List (ℕ × Label)) (rows : Rows) (qs : List Numbered)
     → list_any (λ m. m == n) (numbers_of qs) ≡ false → EachOf (λ (q : Numbered). HasNoLine rows q.number) qs
-    → EachOf (λ (q : Numbered). HasNoLine (with_changed_lines n ls rows) q.number) qs
+    → EachOf (λ (q : Numbered). HasNoLine (with_pack n ls rows) q.number) qs
 still_none n ls rows [] off none = tt
 still_none n ls rows (q ∷ qs) off none = (
-  none_elsewhere q.number n 0 ls (without_lines n rows)
-      (λ same. not_it q.number n (or_first (q.number == n) (list_any (λ m. m == n) (numbers_of qs)) off) (sym same))
-      (none_kept (λ (l : LineRow). l.no == q.number) (λ (l : LineRow). not (l.no == n)) rows.lines none.0),
+  (
+    none.0.0,
+    none_put (λ (p : PackRow). p.no) (λ (p : PackRow). p.no == q.number) (record { no = n; lines = ls }) rows.packs
+        (is_not n q.number (λ same. not_it q.number n
+        (or_first (q.number == n) (list_any (λ m. m == n) (numbers_of qs)) off) (sym same))) none.0.1,
+  ),
   still_none n ls rows qs (or_second (q.number == n) (list_any (λ m. m == n) (numbers_of qs)) off) none.1,
 )
 
 lines_staged : (ps : List Numbered) (rows : Rows) → IsOnce (numbers_of ps)
     → EachOf (λ (p : Numbered). HasNoLine rows p.number) ps
-    → with_staged (flat_map lines_of_put ps) rows ≡ with_all_lines ps rows
+    → with_staged (map lines_of_put ps) rows ≡ with_all_lines ps rows
 lines_staged [] rows once none = refl
 lines_staged (p ∷ ps) rows once none =
     let ls = stored p.«record» in
-    joined (lines_of_put p) (flat_map lines_of_put ps) rows
-    ∙ ap (with_staged (flat_map lines_of_put ps)) (one_staged p.number 0 ls rows)
-    ∙ ap (λ (r : Rows). with_staged (flat_map lines_of_put ps) (with_lines p.number 0 ls r))
-    (sym (nothing_removed p.number rows none.0))
-    ∙ lines_staged ps (with_changed_lines p.number ls rows) once.1 (still_none p.number ls rows ps once.0 none.1)
+    lines_staged ps (with_pack p.number ls rows) once.1 (still_none p.number ls rows ps once.0 none.1)
+    ∙ ap (λ (r : Rows). with_all_lines ps (with_pack p.number ls r)) (sym (nothing_removed p.number rows none.0))
 
 -- ---- the lines do not look at the other tables
 abbrev pub beside : List BatchRow → List RecordRow → Rows → Rows
 beside bs rs rows = record rows { batches = bs; records = rs }
 
-lines_beside : (n at : ℕ) (ls : List (ℕ × Label)) (bs : List BatchRow) (rs : List RecordRow) (rows : Rows)
-    → with_lines n at ls (beside bs rs rows) ≡ beside bs rs (with_lines n at ls rows)
-lines_beside n at [] bs rs rows = refl
-lines_beside n at (l ∷ ls) bs rs rows = lines_beside n (at + 1) ls bs rs (with_line n at l rows)
-
 pub all_lines_beside : (ps : List Numbered) (bs : List BatchRow) (rs : List RecordRow) (rows : Rows)
     → with_all_lines ps (beside bs rs rows) ≡ beside bs rs (with_all_lines ps rows)
 all_lines_beside [] bs rs rows = refl
-all_lines_beside (p ∷ ps) bs rs rows =
-    ap (with_all_lines ps) (lines_beside p.number 0 (stored p.«record») bs rs (without_lines p.number rows))
-    ∙ all_lines_beside ps bs rs (with_changed_lines p.number (stored p.«record») rows)
+all_lines_beside (p ∷ ps) bs rs rows = all_lines_beside ps bs rs
+    (with_changed_lines p.number (stored p.«record») rows)
 
 -- ---- spans
 -- a span, put where there is one
@@ -254,15 +210,9 @@ abbrev pub wholly : List BatchRow → List RecordRow → Later → Rows → Rows
 wholly bs rs later rows = with_later later (beside bs rs rows)
 
 -- lines change nothing of those
-line_later : (n at : ℕ) (ls : List (ℕ × Label)) (rows : Rows) → later_in (with_lines n at ls rows) ≡ later_in rows
-line_later n at [] rows = refl
-line_later n at (l ∷ ls) rows = line_later n (at + 1) ls (with_line n at l rows)
-
 all_line_later : (ps : List Numbered) (rows : Rows) → later_in (with_all_lines ps rows) ≡ later_in rows
 all_line_later [] rows = refl
-all_line_later (p ∷ ps) rows =
-    all_line_later ps (with_changed_lines p.number (stored p.«record») rows)
-    ∙ line_later p.number 0 (stored p.«record») (without_lines p.number rows)
+all_line_later (p ∷ ps) rows = all_line_later ps (with_changed_lines p.number (stored p.«record») rows)
 
 pub import_staged : (batch : ℕ) (ps : List Numbered) (drawn : Drawn) (bs : List BatchRow) (rows : Rows)
     → IsOnce (numbers_of ps) → EachOf (λ (p : Numbered). HasNoLine rows p.number) ps
@@ -271,7 +221,7 @@ pub import_staged : (batch : ℕ) (ps : List Numbered) (drawn : Drawn) (bs : Lis
 import_staged batch ps drawn bs rows once none =
     let rs = records_put batch ps rows.records in
     let all = with_all_lines ps rows in
-    let lines = flat_map lines_of_put ps in
+    let lines = map lines_of_put ps in
     let later = later_rows ps drawn in
     joined (map (record_of batch) ps) (lines ++ later) (record rows { batches = bs })
     ∙ ap (with_staged (lines ++ later)) (records_staged batch ps (record rows { batches = bs }))
@@ -279,3 +229,14 @@ import_staged batch ps drawn bs rows once none =
     ∙ ap (with_staged later) (lines_staged ps (beside bs rs rows) once none ∙ all_lines_beside ps bs rs rows)
     ∙ later_staged ps drawn (beside bs rs all)
     ∙ ap (λ (before : Later). wholly bs rs (later_put ps drawn before) all) (all_line_later ps rows)
+
+-- numbers that have none of both rows
+pub no_lines : (rows : Rows) (ps : List Numbered)
+    → EachOf (λ (p : Numbered). list_any (λ (l : LineRow). l.no == p.number) rows.lines ≡ false) ps
+    → EachOf (λ (p : Numbered). list_any (λ (k : PackRow). k.no == p.number) rows.packs ≡ false) ps
+    → EachOf (λ (p : Numbered). HasNoLine rows p.number) ps
+no_lines rows [] lines packs = tt
+no_lines rows (p ∷ ps) lines packs = (
+  (lines.0, packs.0),
+  no_lines rows ps lines.1 packs.1,
+)

@@ -3,7 +3,6 @@
 use Rattle.std.specs.Prelude.{
   ℕ,
   ◌≡◌,
-  ◌+◌,
   ◌==◌,
   true,
   false,
@@ -33,15 +32,16 @@ use Rattle.store_tables.specs.Rows.{
   BatchRow,
   RecordRow,
   LineRow,
+  PackRow,
   LinkRow,
   SoughtRow,
   SpanRow,
   put_pair,
   with_batch,
   with_closed,
-  with_line,
   with_link,
   with_next,
+  with_pack,
   with_record_row,
   with_sought,
   with_span,
@@ -53,11 +53,11 @@ use Rattle.store_rows.specs.Sought.{Sought, sought_of}
 use Rattle.store_rows.specs.Spans.{Drawn}
 use Rattle.store_rows.specs.Writing.{kind_word, with_kept_written}
 
--- one row of an import: of `record`, a line of a number at a place, a link, what a number is looked for by, or the span
--- of a number
+-- one row of an import: of `record`, all lines of a number, a link, what a number is looked for by, or the span of a
+-- number
 pub data StagedRow : Type 0 where
   a_record : RecordRow → StagedRow
-  a_line : ℕ → ℕ → ℕ × Label → StagedRow
+  a_pack : ℕ → List (ℕ × Label) → StagedRow
   a_link : LinkRow → StagedRow
   a_sought : ℕ → Sought → StagedRow
   a_span : ℕ → Span → StagedRow
@@ -69,13 +69,9 @@ numbers_of = map (λ (p : Numbered). p.number)
 abbrev pub record_of : ℕ → Numbered → StagedRow
 record_of batch p = a_record (record { no = p.number; kind = kind_word p.«record»; batch = batch })
 
--- lines of a number from a place on
-abbrev pub lines_from : ℕ → ℕ → List (ℕ × Label) → List StagedRow
-lines_from n at [] = []
-lines_from n at (l ∷ ls) = a_line n at l ∷ lines_from n (at + 1) ls
-
-abbrev pub lines_of_put : Numbered → List StagedRow
-lines_of_put p = lines_from p.number 0 (stored p.«record»)
+-- the row with all lines of a number
+abbrev pub lines_of_put : Numbered → StagedRow
+lines_of_put p = a_pack p.number (stored p.«record»)
 
 -- the span of a number, where there is one
 abbrev pub span_row : ℕ × Option Span → List StagedRow
@@ -112,15 +108,15 @@ links_of ps = with_names ps []
 abbrev pub later_rows : List Numbered → Drawn → List StagedRow
 later_rows ps drawn = map a_link (links_of ps) ++ (flat_map sought_row ps ++ flat_map span_row drawn)
 
--- the rows of an import in their order: those of `record`, then all lines, since a line may name any record, and then
--- those that come behind the lines
+-- the rows of an import in their order: those of `record`, then those with the lines, and then those that come behind
+-- the lines
 abbrev pub rows_of_import : ℕ → List Numbered → Drawn → List StagedRow
-rows_of_import batch ps drawn = map (record_of batch) ps ++ (flat_map lines_of_put ps ++ later_rows ps drawn)
+rows_of_import batch ps drawn = map (record_of batch) ps ++ (map lines_of_put ps ++ later_rows ps drawn)
 
 -- ---- what staging makes of the rows of an archive
 abbrev pub with_staged_row : StagedRow → Rows → Rows
 with_staged_row (a_record r) rows = with_record_row r.no r.kind r.batch rows
-with_staged_row (a_line n at l) rows = with_line n at l rows
+with_staged_row (a_pack n ls) rows = with_pack n ls rows
 with_staged_row (a_link l) rows = with_link l.target l.no rows
 with_staged_row (a_sought n s) rows = with_sought n s.0 s.1 rows
 with_staged_row (a_span n span) rows = with_span n span.lo span.hi rows
@@ -149,11 +145,13 @@ abbrev pub with_published : ℕ → Changes → Rows → Rows
 with_published batch changes rows = with_kept_written changes.kept (with_next changes.next (with_closed batch rows))
 
 -- ---- what is asked of an import
--- each line, each span and what each number is looked for by is of a number with a row in `record`, and each such row
--- is of a closed batch
+-- each line, all lines in one row, each span and what each number is looked for by are of a number with a row in
+-- `record`, and each such row is of a closed batch
 pub record AreClosed (rows : Rows) : Type 0 where
   pub lines : AllByRecursion (λ (l : LineRow). list_any (λ (r : RecordRow). r.no == l.no) rows.records ≡ true)
       rows.lines
+  pub packs : AllByRecursion (λ (p : PackRow). list_any (λ (r : RecordRow). r.no == p.no) rows.records ≡ true)
+      rows.packs
   pub records : AllByRecursion (λ (r : RecordRow). is_closed r.batch rows.batches ≡ true) rows.records
   pub spans : AllByRecursion (λ (s : SpanRow). list_any (λ (r : RecordRow). r.no == s.no) rows.records ≡ true)
       rows.spans
@@ -171,6 +169,7 @@ pub record IsFresh (batch : ℕ) (ps : List Numbered) (rows : Rows) : Type 0 whe
   pub records : list_any (λ (r : RecordRow). r.batch == batch) rows.records ≡ false
   pub numbers : EachOf (λ (p : Numbered). list_any (λ (r : RecordRow). r.no == p.number) rows.records ≡ false) ps
   pub lines : EachOf (λ (p : Numbered). list_any (λ (l : LineRow). l.no == p.number) rows.lines ≡ false) ps
+  pub packs : EachOf (λ (p : Numbered). list_any (λ (k : PackRow). k.no == p.number) rows.packs ≡ false) ps
   pub spans : EachOf (λ (p : Numbered). list_any (λ (s : SpanRow). s.no == p.number) rows.spans ≡ false) ps
   pub soughts : EachOf (λ (p : Numbered). list_any (λ (s : SoughtRow). s.no == p.number) rows.soughts ≡ false) ps
 

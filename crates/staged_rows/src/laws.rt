@@ -18,6 +18,7 @@ ghost use Rattle.store_tables.specs.Rows.{
   BatchRow,
   LineRow,
   LinkRow,
+  PackRow,
   RecordRow,
   with_batch,
   without_batch_row,
@@ -105,6 +106,9 @@ pub fn what_no_record_has_is_not_seen()
     ensures lines { (stays : LineRow → Bool) (rows : Rows)
         → ((l : LineRow) → stays l ≡ false → has_record l.no rows ≡ false)
         → IsSeenAs rows (record rows { lines = filter stays rows.lines }) }
+    ensures packs { (stays : PackRow → Bool) (rows : Rows)
+        → ((p : PackRow) → stays p ≡ false → has_record p.no rows ≡ false)
+        → IsSeenAs rows (record rows { packs = filter stays rows.packs }) }
     ensures spans { (n : ℕ) (rows : Rows) → has_record n rows ≡ false → IsSeenAs rows (without_span n rows) }
     ensures soughts { (n : ℕ) (rows : Rows) → has_record n rows ≡ false → IsSeenAs rows (without_sought n rows) }
     ensures links { (target n : ℕ) (rows : Rows) → has_record n rows ≡ false
@@ -114,13 +118,14 @@ pub fn what_no_record_has_is_not_seen()
         → IsSeenAs rows (without_batch_row n rows) }
 {}
 
-/// An import leaves the rows of every number that it does not put: its row in `record` and its lines, each with its
-/// id, in their order.
+/// An import leaves the rows of every number that it does not put: its row in `record`, and its lines.
 pub fn an_import_leaves_the_rows_of_other_numbers()
     ensures { (batch : ℕ) (changes : Changes) (drawn : Drawn) (rows : Rows) (m : ℕ)
         → EachOf (λ (p : Numbered). p.number ≢ m) changes.puts
         → (filter (λ (l : LineRow). l.no == m) (with_whole_import batch changes drawn rows).lines ≡ filter
         (λ (l : LineRow). l.no == m) rows.lines)
+        × (filter (λ (p : PackRow). p.no == m) (with_whole_import batch changes drawn rows).packs ≡ filter
+        (λ (p : PackRow). p.no == m) rows.packs)
         × (filter (λ (r : RecordRow). r.no == m) (with_whole_import batch changes drawn rows).records ≡ filter
         (λ (r : RecordRow). r.no == m) rows.records) }
 {}

@@ -4,7 +4,6 @@ use Rattle.std.proofs.Common.{
   ℕ,
   ◌+◌,
   ◌<◌,
-  ◌≤◌,
   List,
   [],
   ◌∷◌,
@@ -21,26 +20,21 @@ use Rattle.std.proofs.Common.{
   map,
   min,
   refl,
-  suc,
   sym,
   take,
   ◌∙◌,
 }
 use Rattle.std.specs.List.{flat_map}
-use Rattle.std.proofs.lemmas.Grind.{flat_map-append}
-use Rattle.std.proofs.lemmas.List.{length-append, length-map, take_all}
+use Rattle.std.proofs.lemmas.List.{length-append, length-map}
 use Rattle.std.proofs.Math.Seq.{take-suc}
-use Rattle.stored_lines.specs.Line.{Label}
 use Rattle.date_spans.specs.Spans.{IsSpanOf, date_in}
 use Rattle.gedcom_date.specs.declared.value.Span.{Span}
 use Rattle.record_fields.specs.declared.date.Date.{Date}
-use Rattle.records.specs.Stored.{stored}
 use Rattle.archive_state.specs.declared.changes.Numbered.{Numbered}
 use Rattle.store_rows.specs.Spans.{AreDrawn, Drawn}
 use Rattle.staged_rows.specs.Staging.{
   a_link,
   later_rows,
-  lines_from,
   lines_of_put,
   links_of,
   record_of,
@@ -52,34 +46,13 @@ use Rattle.staging.specs.Opened.{AreDated, AreLater, row_of_sought_row, row_of_s
 use Rattle.staging.specs.declared.dated.Dated.{Dated}
 use Rattle.staging.specs.declared.later.Later.{Later}
 
--- how many lines these records have
-abbrev pub line_count : List Numbered → ℕ
-line_count ps = length (flat_map lines_of_put ps)
-
-as_many_lines : (n at : ℕ) (ls : List (ℕ × Label)) → length (lines_from n at ls) ≡ length ls
-as_many_lines n at [] = refl
-as_many_lines n at (l ∷ ls) = ap suc (as_many_lines n (at + 1) ls)
-
-lines_of_one : (p : Numbered) → line_count (p ∷ []) ≡ length (stored p.«record»)
-lines_of_one p =
-    let ls = lines_from p.number 0 (stored p.«record») in
-    let both : length (ls ++ []) ≡ length ls + 0 = length-append ls [] in
-    let same = as_many_lines p.number 0 (stored p.«record») in
-    omega (arith, both, same)
-
-pub one_more : (ps : List Numbered) (p : Numbered)
-    → line_count (ps ++ p ∷ []) ≡ line_count ps + length (stored p.«record»)
-one_more ps p =
-    ap length (flat_map-append lines_of_put ps (p ∷ []))
-    ∙ length-append (flat_map lines_of_put ps) (flat_map lines_of_put (p ∷ []))
-    ∙ ap (λ k. line_count ps + k) (lines_of_one p)
-
 all_rows : (batch : ℕ) (ps : List Numbered) (drawn : Drawn) → length (rows_of_import batch ps drawn)
-    ≡ length ps + (line_count ps + length (later_rows ps drawn))
+    ≡ length ps + (length ps + length (later_rows ps drawn))
 all_rows batch ps drawn =
-    length-append (map (record_of batch) ps) (flat_map lines_of_put ps ++ later_rows ps drawn)
+    length-append (map (record_of batch) ps) (map lines_of_put ps ++ later_rows ps drawn)
     ∙ ap₂ (λ k n. k + n) (length-map ps (record_of batch))
-    (length-append (flat_map lines_of_put ps) (later_rows ps drawn))
+    (length-append (map lines_of_put ps) (later_rows ps drawn)
+    ∙ ap (λ k. k + length (later_rows ps drawn)) (length-map ps lines_of_put))
 
 -- a date has one span
 as_many : (date : Option Date) (n m : ℕ) (o p : Option Span) → IsSpanOf date o → IsSpanOf date p
@@ -121,40 +94,21 @@ later_all ps later drawn are other =
     ∙ sym (length-append (flat_map sought_row ps) (flat_map span_row drawn)))
     ∙ sym (length-append (map a_link (links_of ps)) (flat_map sought_row ps ++ flat_map span_row drawn))
 
--- a sum that stops at its bound
-goes_on : (count all more most : ℕ) → count ≡ min all most → min (count + more) most ≡ min (all + more) most
-goes_on count all more most is = omega (arith, is)
+pub all_counted : (batch : ℕ) (ps : List Numbered) (later : Later) (drawn : Drawn) → AreLater ps later
+    → AreDrawn ps drawn → (length ps + length ps) + later_count later ≡ length (rows_of_import batch ps drawn)
+all_counted batch ps later drawn are other =
+    let rows = all_rows batch ps drawn in
+    let behind = later_all ps later drawn are other in
+    omega (arith, rows, behind)
 
+-- a sum that stops at its bound, at each of its steps
+pub sum_stops : (n links soughts spans most a b c d : ℕ) → a ≡ min (n + n) most → b ≡ min (a + links) most
+    → c ≡ min (b + soughts) most → d ≡ min (c + spans) most
+    → d ≡ min ((n + n) + (links + (soughts + spans))) most
+sum_stops n links soughts spans most a b c d one two three four = omega (arith, one, two, three, four)
+
+-- ---- the records before one, and then it
 pub taken_next : {A : Type 0} (ps : List A) (i : ℕ) (p : A) → i < length ps → p ≡ get_or ps i p
     → take (i + 1) ps ≡ take i ps ++ p ∷ []
 taken_next {A} ps i p low is =
     ap (λ k. take k ps) (add-one i) ∙ take-suc ps i p low ∙ ap (λ (q : A). take i ps ++ q ∷ []) (sym is)
-
-one_taken : (ps : List Numbered) (i : ℕ) (p : Numbered) → i < length ps → p ≡ get_or ps i p
-    → line_count (take (i + 1) ps) ≡ line_count (take i ps) + length (stored p.«record»)
-one_taken ps i p low is = ap line_count (taken_next ps i p low is) ∙ one_more (take i ps) p
-
--- one record more is counted
-pub next_counted : (ps : List Numbered) (i : ℕ) (p : Numbered) (count more new most : ℕ) → i < length ps
-    → p ≡ get_or ps i p → more ≡ length (stored p.«record») → new ≡ min (count + more) most
-    → count ≡ min (length ps + line_count (take i ps)) most
-    → new ≡ min (length ps + line_count (take (i + 1) ps)) most
-next_counted ps i p count more new most low is lines sum was =
-    let taken = one_taken ps i p low is in
-    let all : (length ps + line_count (take i ps)) + more ≡ length ps + line_count (take (i + 1) ps) = omega
-    (arith, taken, lines) in
-    sum ∙ goes_on count (length ps + line_count (take i ps)) more most was ∙ ap (λ n. min n most) all
-
--- all records are, and then what comes behind their lines
-pub all_counted : (batch : ℕ) (ps : List Numbered) (later : Later) (drawn : Drawn) (i count new most : ℕ)
-    → AreLater ps later → AreDrawn ps drawn → length ps ≤ i → count ≡ min (length ps + line_count (take i ps)) most
-    → new ≡ min (count + later_count later) most → new ≡ min (length (rows_of_import batch ps drawn)) most
-all_counted batch ps later drawn i count new most are other past was sum =
-    let rows = all_rows batch ps drawn in
-    let behind = later_all ps later drawn are other in
-    let all : (length ps + line_count ps) + later_count later ≡ length (rows_of_import batch ps drawn) = omega
-    (arith, rows, behind) in
-    sum
-    ∙ goes_on count (length ps + line_count ps) (later_count later) most
-    (was ∙ ap (λ (qs : List Numbered). min (length ps + line_count qs) most) (take_all i ps past))
-    ∙ ap (λ n. min n most) all

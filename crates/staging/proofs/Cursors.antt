@@ -3,12 +3,8 @@ use Rattle.std.proofs.Common.{
   ◌≡◌,
   ℕ,
   ◌+◌,
-  ◌-◌,
   ◌<◌,
   ◌≤◌,
-  ◌⊎◌,
-  inl,
-  inr,
   zero,
   suc,
   List,
@@ -41,17 +37,14 @@ use Rattle.std.proofs.Common.{
   nat_lt,
 }
 use Rattle.std.specs.Option.{is_some}
-use Rattle.std.specs.List.{flat_map}
 use Rattle.std.proofs.lemmas.Bool.Decides.{nat_tests}
 use Rattle.std.proofs.lemmas.List.{drop_all}
 use Rattle.sqlite.specs.State.{State, HasCleanDisk, Survives}
 use Rattle.sqlite.proofs.StateLemmas.{survives_then}
-use Rattle.stored_lines.specs.Line.{Label}
-use Rattle.records.specs.Stored.{stored}
 use Rattle.record_shapes.specs.Lists.{EachOf}
 use Rattle.archive_state.specs.declared.changes.Numbered.{Numbered}
 use Rattle.store_tables.specs.Calls.{Follows, FollowsDated, Inside}
-use Rattle.store_tables.specs.Rows.{LinkRow, Rows, SoughtRow, with_link, with_record_row, with_sought, with_span}
+use Rattle.store_tables.specs.Rows.{Rows, with_record_row}
 use Rattle.store_tables.proofs.Calls.{follows_then}
 use Rattle.store_tables.proofs.Loops.{and_last}
 use Rattle.store_rows.specs.Shallow.{IsShallowPut}
@@ -60,13 +53,12 @@ use Rattle.store_rows.proofs.Dated.{nothing_done}
 use Rattle.staged_rows.specs.Staging.{
   StagedRow,
   AreNew,
-  a_line,
   a_link,
+  a_pack,
   a_record,
   a_sought,
   a_span,
   record_of,
-  lines_from,
   lines_of_put,
   with_staged,
   with_staged_row,
@@ -75,12 +67,9 @@ use Rattle.staged_rows.proofs.Whole.{joined}
 use Rattle.staging.specs.Opened.{
   FollowsStaged,
   GoesOnLater,
-  IsNext,
   IsPlaced,
-  StaysLater,
   later_left,
   left_of,
-  lines_left,
   row_of_sought_row,
   row_of_span,
 }
@@ -88,6 +77,8 @@ use Rattle.staging.specs.declared.cursor.Cursor.{Cursor}
 use Rattle.staging.specs.declared.dated.Dated.{Dated}
 use Rattle.staging.specs.declared.later.Later.{Later}
 use Rattle.list_laws.proofs.Numbers.{below_is}
+use Rattle.record_shapes.proofs.Each.{each_both}
+use Rattle.staging.proofs.Counting.{taken_next}
 
 -- ---- lists
 add_one : (k : ℕ) → suc k ≡ k + 1
@@ -136,7 +127,7 @@ of_any old new f g same did rows has was = follows_as old new f g same did rows 
 
 row_has : (r : StagedRow) (rows : Rows) → (with_staged_row r rows).has_spans ≡ rows.has_spans
 row_has (a_record r) rows = refl
-row_has (a_line n at l) rows = refl
+row_has (a_pack n ls) rows = refl
 row_has (a_link l) rows = refl
 row_has (a_sought n s) rows = refl
 row_has (a_span n span) rows = refl
@@ -196,26 +187,6 @@ three r a b c d f g h early late one two last clean =
     let clean_b : HasCleanDisk b = omega (arith, clean_c, early.clean) in
     and_last r a c d (λ rows. g (f rows)) h (follows_then a b c f g (one clean_b) (two clean_c)) (last clean)
 
--- the line of a record at a place
-pub line_next : (n place : ℕ) (ls : List (ℕ × Label)) (x : ℕ × Label) → place < length ls → x ≡ get_or ls place x
-    → lines_from n place (drop place ls) ≡ a_line n place x ∷ lines_from n (place + 1) (drop (place + 1) ls)
-line_next n place ls x low is =
-    ap (lines_from n place)
-    (drop-cons ls place x low ∙ ap (λ y. y ∷ drop (suc place) ls) (sym is) ∙ ap (λ k. x ∷ drop k ls) (add_one place))
-
--- ---- the cursor
-
--- what comes behind the lines is left as it was
-later_stays : (later : Later) (old new : Cursor) → StaysLater old new → later_left later new ≡ later_left later old
-later_stays later old new same =
-    ap₂ (λ k ys. map a_link (drop k later.links.items) ++ ys) same.0
-    (ap₂ (λ k d. map row_of_sought_row (drop k later.soughts.items) ++ map row_of_span (drop d later.spans.items))
-    same.1 same.2)
-
-pub begun : (ps : List Numbered) → lines_left 0 ps ≡ flat_map lines_of_put ps
-begun [] = refl
-begun (p ∷ ps) = refl
-
 -- ---- whether rows are left
 some_behind : {A : Type 0} (k : ℕ) (xs : List A) → k < length xs → (x : A) × (drop k xs ≡ x ∷ drop (suc k) xs)
 some_behind zero [] low = absurd (omega (arith, low))
@@ -236,41 +207,28 @@ pub rows_more : (batch : ℕ) (ps : List Numbered) (later : Later) (c : Cursor) 
 rows_more batch ps later c low none =
     let found = some_behind c.rows ps low in
     let gone : map (record_of batch) (drop c.rows ps) ≡ [] = front_none _
-    (lines_left c.place (drop c.done ps) ++ later_left later c) none in
+    (map lines_of_put (drop c.done ps) ++ later_left later c) none in
     let both : record_of batch found.0 ∷ map (record_of batch) (drop (suc c.rows) ps) ≡ [] = sym
     (ap (map (record_of batch)) found.1) ∙ gone in cc
 
-lines_some : (place : ℕ) (lines : List (ℕ × Label)) (p : Numbered) (ps : List Numbered)
-    → IsNext place lines (p ∷ ps) → lines_left place (p ∷ ps) ≡ [] → ⊥
-lines_some place lines p ps next none =
-    let ls = stored p.«record» in
-    let found = some_behind place ls next.0 in
-    let gone : lines_from p.number place (drop place ls) ≡ [] = front_none _ (flat_map lines_of_put ps) none in
-    let both : a_line p.number place found.0 ∷ lines_from p.number (place + 1) (drop (suc place) ls) ≡ [] = sym
-    (ap (lines_from p.number place) found.1) ∙ gone in cc
-
 -- behind the rows of `record`, nothing is left of lines and of what comes behind them
 behind_none : (batch : ℕ) (ps : List Numbered) (later : Later) (c : Cursor) → left_of batch ps later c ≡ []
-    → lines_left c.place (drop c.done ps) ++ later_left later c ≡ []
+    → map lines_of_put (drop c.done ps) ++ later_left later c ≡ []
 behind_none batch ps later c none = back_none (map (record_of batch) (drop c.rows ps))
-    (lines_left c.place (drop c.done ps) ++ later_left later c) none
+    (map lines_of_put (drop c.done ps) ++ later_left later c) none
 
-pub lines_more : (batch : ℕ) (ps : List Numbered) (later : Later) (c : Cursor) → IsPlaced ps c → c.done < length ps
-    → left_of batch ps later c ≡ [] → ⊥
-lines_more batch ps later c placed low none =
-    let found = some_behind c.done ps low in
-    lines_some c.place c.lines.items found.0 (drop (suc c.done) ps)
-    (subst (IsNext c.place c.lines.items) found.1 placed.next)
-    (ap (lines_left c.place) (sym found.1)
-    ∙ front_none (lines_left c.place (drop c.done ps)) (later_left later c)
-    (behind_none batch ps later c none))
-
--- what comes behind the lines, where rows of it are left
+-- where rows are left that are made of items
 map_some : {A : Type 0} (f : A → StagedRow) (k : ℕ) (xs : List A) → k < length xs → map f (drop k xs) ≡ [] → ⊥
 map_some f k xs low none =
     let found = some_behind k xs low in
     let both : f found.0 ∷ map f (drop (suc k) xs) ≡ [] = sym (ap (map f) found.1) ∙ none in cc
 
+pub lines_more : (batch : ℕ) (ps : List Numbered) (later : Later) (c : Cursor) → c.done < length ps
+    → left_of batch ps later c ≡ [] → ⊥
+lines_more batch ps later c low none = map_some lines_of_put c.done ps low
+    (front_none (map lines_of_put (drop c.done ps)) (later_left later c) (behind_none batch ps later c none))
+
+-- what comes behind the lines
 module _ (later : Later) (c : Cursor) where
   abbrev links_in : List StagedRow
   links_in = map a_link (drop c.links later.links.items)
@@ -309,7 +267,7 @@ module _ (later : Later) (c : Cursor) where
 pub later_alone : (batch : ℕ) (ps : List Numbered) (later : Later) (c : Cursor) → length ps ≤ c.rows
     → length ps ≤ c.done → left_of batch ps later c ≡ later_left later c
 later_alone batch ps later c rows done =
-    ap₂ (λ qs rs. map (record_of batch) qs ++ (lines_left c.place rs ++ later_left later c))
+    ap₂ (λ qs rs. map (record_of batch) qs ++ (map lines_of_put rs ++ later_left later c))
     (drop_all c.rows ps rows) (drop_all c.done ps done)
 
 pub at_end : (k n : ℕ) → nat_lt k n ≡ false → n ≤ k
@@ -344,16 +302,11 @@ some_spans later c past more = (
     unless false e none = refl
     unless true e none = absurd (spans_more later c (below_is c.spans (length later.spans.items) e) none)
 
--- the first of the records that are left has a line at the place, and the lines at hand are known
-pub next_is : (ps : List Numbered) (c : Cursor) (p : Numbered) → IsPlaced ps c → c.done < length ps
-    → p ≡ get_or ps c.done p → IsNext c.place c.lines.items (p ∷ drop (c.done + 1) ps)
-next_is ps c p placed more is = subst (IsNext c.place c.lines.items) (item_and_rest c.done ps p more is) placed.next
-
 -- ---- one row of `record` more
 module _ (batch : ℕ) (ps : List Numbered) (later : Later) (old : Cursor) (p : Numbered) (low : old.rows < length ps)
     (is : p ≡ get_or ps old.rows p) where
   abbrev beside : List StagedRow
-  beside = lines_left old.place (drop old.done ps) ++ later_left later old
+  beside = map lines_of_put (drop old.done ps) ++ later_left later old
 
   row_left : left_of batch ps later old ≡ record_of batch p ∷ (map (record_of batch) (drop (old.rows + 1) ps) ++ beside)
   row_left = ap (λ qs. map (record_of batch) qs ++ beside) (item_and_rest old.rows ps p low is)
@@ -371,65 +324,28 @@ module _ (batch : ℕ) (ps : List Numbered) (later : Later) (old : Cursor) (p : 
   pub record_behind : map (record_of batch) (drop (old.rows + 1) ps) ++ beside ≡ drop 1 (left_of batch ps later old)
   record_behind = sym (ap (drop 1) row_left)
 
--- ---- one line more, where all rows of `record` are written
+-- ---- the lines of one record more, where all rows of `record` are written
 module _ (batch : ℕ) (ps : List Numbered) (later : Later) (old : Cursor) (p : Numbered) (past : length ps ≤ old.rows)
-    (more : old.done < length ps) (is : p ≡ get_or ps old.done p) (low : old.place < length (stored p.«record»)) where
-  abbrev ls : List (ℕ × Label)
-  ls = stored p.«record»
+    (more : old.done < length ps) (is : p ≡ get_or ps old.done p) where
+  abbrev others : List StagedRow
+  others = map lines_of_put (drop (old.done + 1) ps) ++ later_left later old
 
-  abbrev others : List Numbered
-  others = drop (old.done + 1) ps
-
-  abbrev next_lines : List StagedRow
-  next_lines = lines_from p.number (old.place + 1) (drop (old.place + 1) ls) ++ flat_map lines_of_put others
-
-  abbrev line : ℕ × Label
-  line = (some_behind old.place ls low).0
-
-  puts_are : drop old.done ps ≡ p ∷ others
-  puts_are = item_and_rest old.done ps p more is
-
-  lines_are : lines_from p.number old.place (drop old.place ls)
-      ≡ a_line p.number old.place line ∷ lines_from p.number (old.place + 1) (drop (old.place + 1) ls)
-  lines_are =
-      ap (lines_from p.number old.place)
-      ((some_behind old.place ls low).1 ∙ ap (λ k. line ∷ drop k ls) (add_one old.place))
-
-  old_is : left_of batch ps later old ≡ a_line p.number old.place line ∷ (next_lines ++ later_left later old)
+  old_is : left_of batch ps later old ≡ lines_of_put p ∷ others
   old_is =
-      ap₂ (λ qs rs. map (record_of batch) qs ++ (lines_left old.place rs ++ later_left later old))
-      (drop_all old.rows ps past) puts_are
-      ∙ ap (λ rs. (rs ++ flat_map lines_of_put others) ++ later_left later old) lines_are
+      ap₂ (λ qs rs. map (record_of batch) qs ++ (map lines_of_put rs ++ later_left later old))
+      (drop_all old.rows ps past) (item_and_rest old.done ps p more is)
 
-  pub line_written : (a b : State)
-      → Follows a b (with_staged (take 1 (lines_from p.number old.place (drop old.place ls))))
+  pub lines_written : (a b : State) → Follows a b (with_staged (lines_of_put p ∷ []))
       → FollowsStaged a b (take 1 (left_of batch ps later old))
-  line_written a b did rows has was =
+  lines_written a b did rows has was =
       let done = did rows was in (
-        subst (λ rs. Inside b (with_staged rs rows)) (ap (take 1) lines_are ∙ sym (ap (take 1) old_is)) done.0,
+        subst (λ rs. Inside b (with_staged rs rows)) (sym (ap (take 1) old_is)) done.0,
         done.1,
         subst (λ rs. AreNew rs rows) (sym (ap (take 1) old_is)) (tt, tt),
       )
 
-  pub left_behind : (new : Cursor) (ml : List (ℕ × Label)) → ml ≡ ls
-      → (new.rows ≡ old.rows) × StaysLater old new
-      × (((old.place + 1 < length ml) × (new.place ≡ old.place + 1) × (new.done ≡ old.done)
-      × (new.lines.items ≡ ml))
-      ⊎ ((length ml ≤ old.place + 1) × (new.place ≡ 0) × (new.done ≡ old.done + 1)
-      × (new.lines.items ≡ [])))
-      → left_of batch ps later new ≡ drop 1 (left_of batch ps later old)
-  left_behind new ml made went =
-      let records : map (record_of batch) (drop new.rows ps) ≡ [] = ap (λ k. map (record_of batch) (drop k ps)) went.0
-      ∙ ap (map (record_of batch)) (drop_all old.rows ps past) in
-      let stays : later_left later new ≡ later_left later old = later_stays later old new went.1 in
-      let new_is : lines_left new.place (drop new.done ps) ≡ next_lines = elim went.2 [
-        | inl next ↦ ap₂ (λ k d. lines_left k (drop d ps)) next.1 next.2
-            ∙ ap (lines_left (old.place + 1)) puts_are
-        | inr past ↦ ap₂ (λ k d. lines_left k (drop d ps)) past.1 past.2 ∙ begun others
-            ∙ sym (ap (λ rs. lines_from p.number (old.place + 1) rs ++ flat_map lines_of_put others)
-            (drop_all (old.place + 1) ls (subst (λ ms. length ms ≤ old.place + 1) made past.0)))
-      ] in
-      ap₂ (λ xs ys. xs ++ ys) records (ap₂ (λ xs ys. xs ++ ys) new_is stays) ∙ sym (ap (drop 1) old_is)
+  pub left_behind : left_of batch ps later (record old { done = old.done + 1 }) ≡ drop 1 (left_of batch ps later old)
+  left_behind = ap (λ qs. map (record_of batch) qs ++ others) (drop_all old.rows ps past) ∙ sym (ap (drop 1) old_is)
 
 -- ---- one row more that comes behind the lines
 first_of : {A : Type 0} (xs ys : List A) (x : A) (more : List A) → xs ≡ x ∷ more → take 1 (xs ++ ys) ≡ take 1 xs
@@ -535,8 +451,14 @@ module _ (batch : ℕ) (ps : List Numbered) (later : Later) (old : Cursor) (rows
       ∙ sym (ap (later_left later) is) ∙ left ∙ sym (ap (drop 1) (later_alone batch ps later old rows done))
 
 pub later_placed : (ps : List Numbered) (old new : Cursor) → GoesOnLater old new → IsPlaced ps old → IsPlaced ps new
-later_placed ps old new is placed = subst (IsPlaced ps) (sym is)
-    (record { next = placed.next; shallow = placed.shallow })
+later_placed ps old new is placed = subst (IsPlaced ps) (sym is) placed
+
+-- one more of the records whose lines are written can be read again
+pub placed_on : (ps : List Numbered) (old : Cursor) (p : Numbered) → old.done < length ps → p ≡ get_or ps old.done p
+    → IsPlaced ps old → IsShallowPut p → IsPlaced ps (record old { done = old.done + 1 })
+placed_on ps old p more is placed one =
+    subst (EachOf IsShallowPut) (sym (taken_next ps old.done p more is))
+    (each_both IsShallowPut (take old.done ps) (p ∷ []) placed (one, tt))
 
 -- where nothing is left, all records were written, and can be read again
 take_all : {A : Type 0} (k : ℕ) (xs : List A) → length xs ≤ k → take k xs ≡ xs
@@ -550,5 +472,5 @@ pub all_shallow : (batch : ℕ) (ps : List Numbered) (later : Later) (c : Cursor
 all_shallow batch ps later c placed none = past (nat_lt c.done (length ps)) refl
   where
     past : (b : Bool) → nat_lt c.done (length ps) ≡ b → EachOf IsShallowPut ps
-    past true e = absurd (lines_more batch ps later c placed (below_is c.done (length ps) e) none)
-    past false e = subst (EachOf IsShallowPut) (take_all c.done ps (at_end c.done (length ps) e)) placed.shallow
+    past true e = absurd (lines_more batch ps later c (below_is c.done (length ps) e) none)
+    past false e = subst (EachOf IsShallowPut) (take_all c.done ps (at_end c.done (length ps) e)) placed

@@ -26,7 +26,7 @@ use Rattle.sqlite.specs.Tree.{Trees}
 use Rattle.record_shapes.specs.Lists.{EachOf}
 use Rattle.store_tables.specs.Calls.{Good, Settled}
 use Rattle.store_tables.specs.Rows.{
-  HoldsLater,
+  HoldsOwn,
   LinkRow,
   Rows,
   SoughtRow,
@@ -118,10 +118,10 @@ no_links (k ∷ ks) rows none = ap (without_all_links ks) (no_link k.target k.no
 pub first_version : (ns : List ℕ) (ls : List LinkRow) (s : State) (rows : Rows) → Settled s rows
     → rows.has_spans ≡ false → rows ≡ without_later ns ls rows
 first_version ns ls s rows was is =
-    let none : (rows.spans ≡ []) × (rows.links ≡ []) × (rows.soughts ≡ []) =
-    subst (λ b. HoldsLater b rows.spans rows.links rows.soughts s.now.trees) is was.good.holds.later in
-    sym (ap (λ (r : Rows). without_all_links ls (without_all_sought ns r)) (no_spans ns rows none.0)
-    ∙ ap (without_all_links ls) (no_soughts ns rows none.2) ∙ no_links ls rows none.1)
+    let own = subst (λ b. HoldsOwn b rows.lines rows.packs rows.spans rows.links rows.soughts s.now.trees) is
+    was.good.holds.own in
+    sym (ap (λ (r : Rows). without_all_links ls (without_all_sought ns r)) (no_spans ns rows own.2)
+    ∙ ap (without_all_links ls) (no_soughts ns rows own.4) ∙ no_links ls rows own.3)
 
 -- ---- commits one after the other
 -- what is taken out of rows part by part: of each item a number, so that it is not seen where this has no record

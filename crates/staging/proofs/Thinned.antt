@@ -15,6 +15,7 @@ use Rattle.std.proofs.Common.{
   refl,
   sym,
   ap,
+  ap₂,
   subst,
   ◌∙◌,
   arith,
@@ -32,7 +33,16 @@ use Rattle.std.proofs.lemmas.List.Folds.{drop_split}
 use Rattle.std.proofs.Math.Seq.{drop-length}
 use Rattle.std.proofs.lemmas.Bool.Decides.{nat_tests}
 use Rattle.record_shapes.specs.Lists.{EachOf}
-use Rattle.store_tables.specs.Rows.{Rows, LineRow, is_line_from, without_lines, without_lines_from, without_record_row}
+use Rattle.store_tables.specs.Rows.{
+  Rows,
+  LineRow,
+  PackRow,
+  is_line_from,
+  is_pack_from,
+  without_lines,
+  without_lines_from,
+  without_record_row,
+}
 use Rattle.store_rows.specs.Writing.{without_all_lines, without_record_rows}
 use Rattle.staging.specs.Clearing.{IsThinned}
 use Rattle.list_laws.proofs.Booleans.{or_right}
@@ -74,14 +84,17 @@ no_line false b h = absurd cc
 -- what is left of the lines of a number from a place on, where all lines of it are taken out
 same_lines : (n at k : ℕ) (rows : Rows) → (k == n) ≡ true
     → without_lines k (without_lines_from n at rows) ≡ without_lines k rows
-same_lines n at k rows e = ap (λ ls. record rows { lines = ls })
+same_lines n at k rows e = ap₂ (λ ls ps. record rows { lines = ls; packs = ps })
     (left_out_before (λ (l : LineRow). not (l.no == k)) (λ l. not (is_line_from n at l))
     (λ l out. ap (λ m. not (l.no == m)) (it k n e) ∙ no_line (l.no == n) (not (nat_lt l.at at)) out) rows.lines)
+    (left_out_before (λ (p : PackRow). not (p.no == k)) (λ p. not (is_pack_from n at p))
+    (λ p out. ap (λ m. not (p.no == m)) (it k n e) ∙ no_line (p.no == n) (not (nat_lt 0 at)) out) rows.packs)
 
 other_lines : (n at k : ℕ) (rows : Rows)
     → without_lines k (without_lines_from n at rows) ≡ without_lines_from n at (without_lines k rows)
-other_lines n at k rows = ap (λ ls. record rows { lines = ls })
+other_lines n at k rows = ap₂ (λ ls ps. record rows { lines = ls; packs = ps })
     (in_any_order (λ (l : LineRow). not (l.no == k)) (λ l. not (is_line_from n at l)) rows.lines)
+    (in_any_order (λ (p : PackRow). not (p.no == k)) (λ p. not (is_pack_from n at p)) rows.packs)
 
 pub thinned_from : (n at : ℕ) (rows : Rows) → IsThinned n rows (without_lines_from n at rows)
 thinned_from n at rows [] has = absurd cc

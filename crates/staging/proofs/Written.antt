@@ -19,22 +19,19 @@ use Rattle.std.proofs.Common.{
   ap₂,
   ◌∙◌,
 }
-use Rattle.std.specs.List.{flat_map}
 use Rattle.std.proofs.lemmas.List.{length-drop}
-use Rattle.records.specs.Stored.{stored}
 use Rattle.archive_state.specs.declared.changes.Numbered.{Numbered}
 use Rattle.store_tables.specs.Rows.{SoughtRow}
 use Rattle.staged_rows.specs.Removing.{links_among}
-use Rattle.staged_rows.specs.Staging.{a_link, lines_from, lines_of_put, links_of, record_of}
+use Rattle.staged_rows.specs.Staging.{a_link, lines_of_put, links_of, record_of}
 use Rattle.staged_rows.proofs.LinksGone.{
   among_all_lines,
-  among_lines,
   among_links,
   among_records,
   none_behind,
   none_in_front,
 }
-use Rattle.staging.specs.Opened.{left_of, later_left, lines_left, row_of_sought_row, row_of_span}
+use Rattle.staging.specs.Opened.{left_of, later_left, row_of_sought_row, row_of_span}
 use Rattle.staging.specs.declared.cursor.Cursor.{Cursor}
 use Rattle.staging.specs.declared.dated.Dated.{Dated}
 use Rattle.staging.specs.declared.later.Later.{Later}
@@ -47,20 +44,14 @@ among_spans : (ds : List Dated) → links_among (map row_of_span ds) ≡ []
 among_spans [] = refl
 among_spans (d ∷ ds) = among_spans ds
 
-among_left : (place : ℕ) (ps : List Numbered) → links_among (lines_left place ps) ≡ []
-among_left place [] = refl
-among_left place (p ∷ ps) =
-    none_in_front (lines_from p.number place (drop place (stored p.«record»))) (flat_map lines_of_put ps)
-    (among_lines p.number place (drop place (stored p.«record»))) ∙ among_all_lines ps
-
 links_left : (batch : ℕ) (ps : List Numbered) (later : Later) (c : Cursor) → links_among (left_of batch ps later c)
     ≡ drop c.links later.links.items
 links_left batch ps later c =
     let soughts = map row_of_sought_row (drop c.soughts later.soughts.items) in
     let spans = map row_of_span (drop c.spans later.spans.items) in
     none_in_front (map (record_of batch) (drop c.rows ps))
-    (lines_left c.place (drop c.done ps) ++ later_left later c) (among_records batch (drop c.rows ps))
-    ∙ none_in_front (lines_left c.place (drop c.done ps)) (later_left later c) (among_left c.place (drop c.done ps))
+    (map lines_of_put (drop c.done ps) ++ later_left later c) (among_records batch (drop c.rows ps))
+    ∙ none_in_front (map lines_of_put (drop c.done ps)) (later_left later c) (among_all_lines (drop c.done ps))
     ∙ none_behind (map a_link (drop c.links later.links.items)) (soughts ++ spans)
     (none_in_front soughts spans (among_soughts (drop c.soughts later.soughts.items))
     ∙ among_spans (drop c.spans later.spans.items))

@@ -2,15 +2,9 @@
 use Rattle.std.specs.Prelude.{
   ℕ,
   ◌≡◌,
-  ◌<◌,
-  ◌≤◌,
-  ◌+◌,
   ◌-◌,
-  ◌⊎◌,
   true,
   List,
-  [],
-  ◌∷◌,
   ◌++◌,
   map,
   take,
@@ -19,12 +13,8 @@ use Rattle.std.specs.Prelude.{
   Option,
 }
 use Rattle.std.specs.List.{flat_map}
-use Rattle.stored_lines.specs.Line.{Label}
-use Rattle.record_kinds.specs.declared.record.Record.{Record}
 use Rattle.date_spans.specs.Spans.{IsSpanOf, date_in}
 use Rattle.gedcom_date.specs.declared.value.Span.{Span}
-use Rattle.records.specs.Shallow.{IsShallow}
-use Rattle.records.specs.Stored.{stored}
 use Rattle.record_shapes.specs.Lists.{EachOf}
 use Rattle.archive_state.specs.Changes.{Changes}
 use Rattle.archive_state.specs.declared.changes.Numbered.{Numbered}
@@ -40,7 +30,6 @@ use Rattle.staged_rows.specs.Staging.{
   a_link,
   a_sought,
   a_span,
-  lines_from,
   lines_of_put,
   links_of,
   record_of,
@@ -102,11 +91,6 @@ pub record AreLater (ps : List Numbered) (later : Later) : Type 0 where
   pub spans : AreDated ps later.spans.items
 
 -- ---- how far the rows are written
--- the lines of these records that are left, of the first from a place on
-abbrev pub lines_left : ℕ → List Numbered → List StagedRow
-lines_left place [] = []
-lines_left place (p ∷ ps) = lines_from p.number place (drop place (stored p.«record»)) ++ flat_map lines_of_put ps
-
 -- those that come behind the lines
 abbrev pub later_left : Later → Cursor → List StagedRow
 later_left later cursor = map a_link (drop cursor.links later.links.items)
@@ -115,34 +99,12 @@ later_left later cursor = map a_link (drop cursor.links later.links.items)
 
 abbrev pub left_of : ℕ → List Numbered → Later → Cursor → List StagedRow
 left_of batch ps later cursor = map (record_of batch) (drop cursor.rows ps)
-    ++ (lines_left cursor.place (drop cursor.done ps) ++ later_left later cursor)
+    ++ (map lines_of_put (drop cursor.done ps) ++ later_left later cursor)
 
--- lines at hand are none yet, or those of a record, which can be read again
-abbrev pub AreKnownOf : List (ℕ × Label) → Record → Type 0
-AreKnownOf lines r = (lines ≡ []) ⊎ ((lines ≡ stored r) × IsShallow r)
-
--- the first of these records has a line at the place, and the lines at hand are known
-abbrev pub IsNext : ℕ → List (ℕ × Label) → List Numbered → Type 0
-IsNext place lines [] = Unit {0}
-IsNext place lines (p ∷ ps) = (place < length (stored p.«record»)) × AreKnownOf lines p.«record»
-
-pub record IsPlaced (ps : List Numbered) (cursor : Cursor) : Type 0 where
-  pub next : IsNext cursor.place cursor.lines.items (drop cursor.done ps)
-  -- records whose lines are written can be read
-  pub shallow : EachOf IsShallowPut (take cursor.done ps)
+-- records whose lines are written can be read again
+abbrev pub IsPlaced : List Numbered → Cursor → Type 0
+IsPlaced ps cursor = EachOf IsShallowPut (take cursor.done ps)
 
 -- a row more that comes behind the lines
 abbrev pub GoesOnLater : Cursor → Cursor → Type 0
 GoesOnLater old new = new ≡ record old { links = new.links; soughts = new.soughts; spans = new.spans }
-
--- what comes behind the lines stays as far as it was
-abbrev pub StaysLater : Cursor → Cursor → Type 0
-StaysLater old new = (new.links ≡ old.links) × (new.soughts ≡ old.soughts) × (new.spans ≡ old.spans)
-
--- one line more of the record whose lines are at hand: it has a next one, or they are all written
-abbrev pub GoesOn : Cursor → Cursor → Type 0
-GoesOn old new = (new.rows ≡ old.rows) × StaysLater old new
-    × (((old.place + 1 < length old.lines.items) × (new.place ≡ old.place + 1) × (new.done ≡ old.done)
-    × (new.lines.items ≡ old.lines.items))
-    ⊎ ((length old.lines.items ≤ old.place + 1) × (new.place ≡ 0) × (new.done ≡ old.done + 1)
-    × (new.lines.items ≡ [])))

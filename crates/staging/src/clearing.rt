@@ -1,6 +1,6 @@
-//! Single commits that take rows of a batch out.
+//! Single commits that take rows of a batch out, each at most 256 rows.
 
-ghost use Rattle.std.specs.Prelude.{◌≡◌, ◌∷◌, [], false, true, OnOk};
+ghost use Rattle.std.specs.Prelude.{◌≡◌, ◌≤◌, ◌∷◌, [], false, true, length, OnOk};
 ghost use Rattle.sqlite.specs.State.{HasCleanDisk};
 ghost use Rattle.sqlite.specs.Held.{state};
 ghost use Rattle.store_tables.specs.Calls.{Settled};
@@ -17,7 +17,7 @@ use store_tables::{LinkRow, batches};
 
 /// The database failed.
 #[derive(Drop)]
-pub(crate) struct Failed;
+pub struct Failed;
 
 impl From<Error> for Failed {
     ghost use Rattle.std.specs.Prelude.{⊤};
@@ -41,8 +41,9 @@ impl From<RefusalKind> for Failed {
 
 /// Takes the spans of these numbers and what they are looked for by out of tables that have spans, in one commit.
 #[tactic(auto, using(crate::proofs::Commits::settles_dated))]
-pub(crate) fn clear_spans<S: Alter>(conn: &mut Connection<S>, numbers: &[u32]) -> Result<(), Failed>
+pub fn clear_spans<S: Alter>(conn: &mut Connection<S>, numbers: &[u32]) -> Result<(), Failed>
     requires autocommit { conn.old.in_transaction ≡ false }
+    requires few { length numbers.now ≤ 128 }
     ensures done { HasCleanDisk (state S.Store conn.new) → OnOk result ((rows : Rows)
         → Settled (state S.Store conn.old) rows → rows.has_spans ≡ true
         → Settled (state S.Store conn.new) (without_all_of numbers.now rows)) }
@@ -60,11 +61,9 @@ pub(crate) fn clear_spans<S: Alter>(conn: &mut Connection<S>, numbers: &[u32]) -
 
 /// Takes these links out of tables that have spans, in one commit.
 #[tactic(auto, using(crate::proofs::Commits::settles_dated))]
-pub(crate) fn clear_links<S: Alter>(
-    conn: &mut Connection<S>,
-    links: &[LinkRow],
-) -> Result<(), Failed>
+pub fn clear_links<S: Alter>(conn: &mut Connection<S>, links: &[LinkRow]) -> Result<(), Failed>
     requires autocommit { conn.old.in_transaction ≡ false }
+    requires few { length links.now ≤ 256 }
     ensures done { HasCleanDisk (state S.Store conn.new) → OnOk result ((rows : Rows)
         → Settled (state S.Store conn.old) rows → rows.has_spans ≡ true
         → Settled (state S.Store conn.new) (without_all_links links.now rows)) }
@@ -80,7 +79,27 @@ pub(crate) fn clear_links<S: Alter>(
     Ok(())
 }
 
-/// Takes the lines of these numbers out, in one commit.
+/// Takes the lines of these numbers out in one commit, of which each has them in one row.
+#[tactic(auto, using(crate::proofs::Commits::settles))]
+pub fn clear_packs<S: Alter>(conn: &mut Connection<S>, numbers: &[u32]) -> Result<(), Failed>
+    requires autocommit { conn.old.in_transaction ≡ false }
+    requires few { length numbers.now ≤ 256 }
+    ensures done { HasCleanDisk (state S.Store conn.new) → OnOk result ((rows : Rows)
+        → Settled (state S.Store conn.old) rows
+        → Settled (state S.Store conn.new) (without_all_lines numbers.now rows)) }
+    ensures crash { HasCleanDisk (state S.Store conn.new) → (rows : Rows) → Settled (state S.Store conn.old) rows
+        → LeavesEither (state S.Store conn.new) rows (without_all_lines numbers.now rows) }
+    ensures clean { HasCleanDisk (state S.Store conn.new) → HasCleanDisk (state S.Store conn.old) }
+    ensures ended { conn.new.in_transaction ≡ false }
+{
+    let mut tx = conn.transaction();
+    remove_lines(&mut tx, numbers)?;
+    tx.commit()?;
+    Ok(())
+}
+
+/// Takes the lines of these numbers out in one commit, of which each has a row a line. Its callers see to it that they
+/// have 256 together at most.
 #[tactic(auto, using(crate::proofs::Commits::settles))]
 pub(crate) fn clear_lines<S: Alter>(conn: &mut Connection<S>, numbers: &[u32]) -> Result<(), Failed>
     requires autocommit { conn.old.in_transaction ≡ false }
@@ -98,7 +117,7 @@ pub(crate) fn clear_lines<S: Alter>(conn: &mut Connection<S>, numbers: &[u32]) -
     Ok(())
 }
 
-/// Takes the lines of a number out from a place on, in one commit.
+/// Takes the lines of a number out from a place on, in one commit. Its callers see to it that these are 256 at most.
 #[tactic(auto, using(crate::proofs::Commits::settles))]
 pub(crate) fn clear_lines_from<S: Alter>(
     conn: &mut Connection<S>,
@@ -122,8 +141,9 @@ pub(crate) fn clear_lines_from<S: Alter>(
 
 /// Takes the rows of these numbers out of `record`, in one commit.
 #[tactic(auto, using(crate::proofs::Commits::settles))]
-pub(crate) fn clear_rows<S: Alter>(conn: &mut Connection<S>, numbers: &[u32]) -> Result<(), Failed>
+pub fn clear_rows<S: Alter>(conn: &mut Connection<S>, numbers: &[u32]) -> Result<(), Failed>
     requires autocommit { conn.old.in_transaction ≡ false }
+    requires few { length numbers.now ≤ 256 }
     ensures done { HasCleanDisk (state S.Store conn.new) → OnOk result ((rows : Rows)
         → Settled (state S.Store conn.old) rows
         → Settled (state S.Store conn.new) (without_record_rows numbers.now rows)) }
@@ -140,7 +160,7 @@ pub(crate) fn clear_rows<S: Alter>(conn: &mut Connection<S>, numbers: &[u32]) ->
 
 /// Takes the row of a batch out, in one commit.
 #[tactic(auto, using(crate::proofs::Commits::settles))]
-pub(crate) fn clear_batch<S: Alter>(conn: &mut Connection<S>, batch: u32) -> Result<(), Failed>
+pub fn clear_batch<S: Alter>(conn: &mut Connection<S>, batch: u32) -> Result<(), Failed>
     requires autocommit { conn.old.in_transaction ≡ false }
     ensures done { HasCleanDisk (state S.Store conn.new) → OnOk result ((rows : Rows)
         → Settled (state S.Store conn.old) rows

@@ -1,7 +1,7 @@
 //! An import that is staged: its rows are written in commits of 256, it is published, or taken out again.
 #![tactic(auto)]
 
-mod clearing;
+pub mod clearing;
 mod cursor;
 mod dated;
 mod finding;

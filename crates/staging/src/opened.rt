@@ -60,7 +60,7 @@ impl OpenImport {
             changes,
             numbers,
             later,
-            cursor: Cursor::new(alloc),
+            cursor: Cursor::new(),
         })
     }
 

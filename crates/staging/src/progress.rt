@@ -1,7 +1,6 @@
 //! How far an import is, for whoever wants to be told.
 
-ghost use Rattle.std.specs.Prelude.{◌≡◌, ◌+◌, ◌-◌, ◌^◌, ℕ, IfOk, length, min};
-ghost use Rattle.records.specs.Stored.{stored};
+ghost use Rattle.std.specs.Prelude.{◌≡◌, ◌+◌, ◌-◌, ◌^◌, ℕ, length, min};
 ghost use Rattle.store_rows.specs.Spans.{AreDrawn, Drawn};
 ghost use Rattle.staged_rows.specs.Staging.{rows_of_import};
 ghost use Rattle.staging.specs.Opened.{AreLater};
@@ -10,8 +9,7 @@ use crate::later::Later;
 use crate::opened::OpenImport;
 use crate::writing::STAGE;
 use archive_state::Numbered;
-use records::{Record, lines_of};
-use std::alloc::{AllocError, Global};
+use std::alloc::Global;
 
 /// Who is told how far an import is. It promises nothing, and what becomes of the import does not depend on it.
 pub trait Progress {
@@ -40,16 +38,16 @@ pub struct RowCount {
 }
 
 impl RowCount {
-    /// Of an import of which no row is written. The lines of each of its records are made and given up again.
-    pub fn new(alloc: Global, import: &OpenImport) -> Result<RowCount, AllocError>
-        ensures written { IfOk result (λ rows. rows.written ≡ 0) }
-        ensures all { IfOk result (λ rows. (drawn : Drawn) → AreDrawn import.now.changes.puts drawn
-            → rows.all ≡ min (length (rows_of_import import.now.batch import.now.changes.puts drawn)) (2 ^ 64 - 1)) }
+    /// Of an import of which no row is written.
+    pub fn new(import: &OpenImport) -> RowCount
+        ensures written { result.written ≡ 0 }
+        ensures all { (drawn : Drawn) → AreDrawn import.now.changes.puts drawn
+            → result.all ≡ min (length (rows_of_import import.now.batch import.now.changes.puts drawn)) (2 ^ 64 - 1) }
     {
-        Ok(RowCount {
+        RowCount {
             written: 0,
-            all: count_rows(alloc, &import.changes.puts, &import.later)?,
-        })
+            all: count_rows(&import.changes.puts, &import.later),
+        }
     }
 
     /// A stage more: 256 rows are written, or all that were left.
@@ -62,34 +60,15 @@ impl RowCount {
     }
 }
 
-/// How many rows the import of these records has: one for each record, one for each of its lines, and those that come
-/// behind the lines.
-fn count_rows(alloc: Global, puts: &[Numbered], later: &Later) -> Result<usize, AllocError>
+/// How many rows the import of these records has: two for each record, and those that come behind the lines.
+fn count_rows(puts: &[Numbered], later: &Later) -> usize
     requires later { AreLater puts.now later.now }
-    ensures { IfOk result (λ n. (batch : ℕ) (drawn : Drawn) → AreDrawn puts.now drawn
-        → n ≡ min (length (rows_of_import batch puts.now drawn)) (2 ^ 64 - 1)) }
+    ensures { (batch : ℕ) (drawn : Drawn) → AreDrawn puts.now drawn
+        → result ≡ min (length (rows_of_import batch puts.now drawn)) (2 ^ 64 - 1) }
 {
-    let mut count = puts.len();
-    'puts: for put in puts {
-        count = count.saturating_add(count_lines(alloc, &put.record)?);
-    }
-    Ok(count_later(count, later))
-}
-
-/// A count, and as many more as there are rows that come behind the lines.
-fn count_later(count: usize, later: &Later) -> usize
-    ensures { result ≡ min (count + (length later.now.links.items
-        + (length later.now.soughts.items + length later.now.spans.items))) (2 ^ 64 - 1) }
-{
-    count
+    puts.len()
+        .saturating_add(puts.len())
         .saturating_add(later.links.len())
         .saturating_add(later.soughts.len())
         .saturating_add(later.spans.len())
-}
-
-/// How many lines a record is kept as.
-fn count_lines(alloc: Global, record: &Record) -> Result<usize, AllocError>
-    ensures { IfOk result (λ n. n ≡ length (stored «record».now)) }
-{
-    Ok(lines_of(alloc, record)?.len())
 }

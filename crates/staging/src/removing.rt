@@ -26,7 +26,8 @@ ghost use Rattle.staging.specs.Clearing.{Clears, IsCleared, IsThinned, LeavesSee
 ghost use Rattle.staging.specs.Opening.{LeavesOne};
 
 use crate::clearing::{
-    Failed, clear_batch, clear_lines, clear_lines_from, clear_links, clear_rows, clear_spans,
+    Failed, clear_batch, clear_lines, clear_lines_from, clear_links, clear_packs, clear_rows,
+    clear_spans,
 };
 use crate::finding::{find_links, find_numbers};
 use record_text::RefusalKind;
@@ -154,7 +155,7 @@ fn take_out<S: Alter>(
     ensures ended { conn.new.in_transaction ≡ false }
 {
     take_later_if(conn, has_spans, numbers, links)?;
-    take_rows_out(conn, numbers)?;
+    take_rows_out(conn, has_spans, numbers)?;
     clear_batch(conn, batch)
 }
 
@@ -243,18 +244,57 @@ fn take_links<S: Alter>(conn: &mut Connection<S>, links: &[LinkRow]) -> Result<(
     Ok(())
 }
 
-/// Takes the lines of these numbers out, and then their rows in `record`.
-fn take_rows_out<S: Alter>(conn: &mut Connection<S>, numbers: &[u32]) -> Result<(), Failed>
+/// Takes the lines of these numbers out, of tables that have spans or none, and then their rows in `record`.
+fn take_rows_out<S: Alter>(
+    conn: &mut Connection<S>,
+    has_spans: bool,
+    numbers: &[u32],
+) -> Result<(), Failed>
     requires autocommit { conn.old.in_transaction ≡ false }
     ensures clears { Clears numbers.now (λ rows after. after ≡ without_records numbers.now rows)
         (state S.Store conn.old) (state S.Store conn.new) result }
     ensures ended { conn.new.in_transaction ≡ false }
 {
-    take_lines(conn, numbers)?;
+    take_lines_of(conn, has_spans, numbers)?;
     take_rows(conn, numbers)
 }
 
-/// Takes the lines of these numbers out, of several numbers in one commit where they are few.
+/// Takes the lines of these numbers out, of tables that have spans, where each number has them in one row, or none.
+fn take_lines_of<S: Alter>(
+    conn: &mut Connection<S>,
+    has_spans: bool,
+    numbers: &[u32],
+) -> Result<(), Failed>
+    requires autocommit { conn.old.in_transaction ≡ false }
+    ensures clears { Clears numbers.now (λ rows after. after ≡ without_all_lines numbers.now rows)
+        (state S.Store conn.old) (state S.Store conn.new) result }
+    ensures ended { conn.new.in_transaction ≡ false }
+{
+    if has_spans {
+        take_packs(conn, numbers)
+    } else {
+        take_lines(conn, numbers)
+    }
+}
+
+/// Takes the lines of these numbers out, of which each has them in one row.
+fn take_packs<S: Alter>(conn: &mut Connection<S>, numbers: &[u32]) -> Result<(), Failed>
+    requires autocommit { conn.old.in_transaction ≡ false }
+    ensures clears { Clears numbers.now (λ rows after. after ≡ without_all_lines numbers.now rows)
+        (state S.Store conn.old) (state S.Store conn.new) result }
+    ensures ended { conn.new.in_transaction ≡ false }
+{
+    let mut rest = numbers;
+    'packs: while !rest.is_empty() {
+        let (part, more) = rest.split_at(rest.len().min(ROOM));
+        clear_packs(conn, part)?;
+        rest = more;
+    }
+    Ok(())
+}
+
+/// Takes the lines of these numbers out, of which each has a row a line: of several numbers in one commit where they
+/// are few.
 fn take_lines<S: Alter>(conn: &mut Connection<S>, numbers: &[u32]) -> Result<(), Failed>
     requires autocommit { conn.old.in_transaction ≡ false }
     ensures clears { Clears numbers.now (λ rows after. after ≡ without_all_lines numbers.now rows)

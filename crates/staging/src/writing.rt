@@ -1,19 +1,16 @@
 //! The rows of an import, written inside a transaction.
 
-ghost use Rattle.std.specs.Prelude.{◌≡◌, ◌⊎◌, ◌<◌, ◌+◌, [], length, map, take, drop, OnOk, IfErr};
+ghost use Rattle.std.specs.Prelude.{◌≡◌, ◌⊎◌, ◌<◌, ◌+◌, ◌∷◌, [], length, map, take, drop, OnOk, IfErr};
 ghost use Rattle.sqlite.specs.Held.{state};
 ghost use Rattle.sqlite.specs.State.{HasCleanDisk};
 ghost use Rattle.record_text.specs.declared.refusal.RefusalKind.TheVariants.{OutOfMemory, Storage};
 ghost use Rattle.record_shapes.specs.Lists.{EachOf};
-ghost use Rattle.records.specs.Shallow.{IsShallow};
-ghost use Rattle.records.specs.Stored.{stored};
 ghost use Rattle.store_tables.specs.Calls.{LeavesAsBefore, Writes, WritesDated};
 ghost use Rattle.store_tables.specs.Rows.{with_closed, with_next};
 ghost use Rattle.store_rows.specs.Shallow.{IsShallowPut};
 ghost use Rattle.store_rows.specs.Writing.{with_kept_written};
-ghost use Rattle.staged_rows.specs.Staging.{a_link, lines_from, with_published, with_staged};
+ghost use Rattle.staged_rows.specs.Staging.{a_link, lines_of_put, with_published, with_staged};
 ghost use Rattle.staging.specs.Opened.{
-  AreKnownOf,
   FollowsStaged,
   GoesOnLater,
   IsPlaced,
@@ -29,12 +26,12 @@ use crate::later::Later;
 use crate::opened::OpenImport;
 use archive_state::{Kept, Numbered};
 use record_text::RefusalKind;
-use records::{Record, lines_of};
+use records::lines_of;
 use sqlite::{Alter, Error, Transaction};
-use std::alloc::{AllocError, Global};
+use std::alloc::Global;
 use store_rows::{Unwritten, kind_of, kind_word, write_kept};
+use store_tables::lines::insert_lines;
 use store_tables::{LinkRow, SoughtRow, batches, links, rows, soughts, spans};
-use stored_lines::StoredLine;
 
 /// How many rows a stage writes.
 pub(crate) const STAGE: u32 = 256;
@@ -56,9 +53,7 @@ pub fn stage_rows<S: Alter>(
     ensures survives { LeavesAsBefore (state S.Store tx.old.conn.now) (state S.Store tx.new.conn.now) }
     ensures refused { IfErr result (λ kind. (kind ≡ OutOfMemory) ⊎ (kind ≡ Storage)) }
 {
-    let (rows, done, place) = (import.cursor.rows, import.cursor.done, import.cursor.place);
-    let (links, soughts) = (import.cursor.links, import.cursor.soughts);
-    let spans = import.cursor.spans;
+    let before = import.cursor;
     let written = write_rows(
         alloc,
         tx,
@@ -70,15 +65,7 @@ pub fn stage_rows<S: Alter>(
     match written {
         Ok(()) => Ok(()),
         Err(why) => {
-            import.cursor = Cursor {
-                rows,
-                done,
-                place,
-                lines: Vec::new(alloc),
-                links,
-                soughts,
-                spans,
-            };
+            import.cursor = before;
             Err(kind_of(why))
         }
     }
@@ -166,8 +153,8 @@ fn write_next<S: Alter>(
         write_later(tx, later, cursor)?;
         return Ok(());
     };
-    write_line(alloc, tx, put, cursor.place, &mut cursor.lines)?;
-    cursor.go_on()?;
+    write_lines(alloc, tx, put)?;
+    cursor.done += 1;
     Ok(())
 }
 
@@ -258,34 +245,19 @@ fn write_span<S: Alter>(
     Ok(())
 }
 
-/// Writes the line of a record at a place. The lines at hand are made where they are none yet.
-fn write_line<S: Alter>(
+/// Writes the row with all lines of a record.
+fn write_lines<S: Alter>(
     alloc: Global,
     tx: &mut Transaction<'_, S>,
     put: &Numbered,
-    place: u32,
-    lines: &mut Vec<StoredLine>,
 ) -> Result<(), Unwritten>
-    requires known { AreKnownOf lines.old.items put.now.«record» }
-    requires there { place < length (stored put.now.«record») }
     ensures same_reference { tx.new.conn.ghost_name ≡ tx.old.conn.ghost_name }
     ensures ok { Writes (state S.Store tx.old.conn.now) (state S.Store tx.new.conn.now)
-        result (with_staged (take 1 (lines_from put.now.number place (drop place (stored put.now.«record»))))) }
-    ensures made { OnOk result ((lines.new.items ≡ stored put.now.«record») × IsShallowPut put.now) }
+        result (with_staged (lines_of_put put.now ∷ [])) }
+    ensures shallow { OnOk result (IsShallowPut put.now) }
     ensures survives { LeavesAsBefore (state S.Store tx.old.conn.now) (state S.Store tx.new.conn.now) }
 {
-    make_lines(alloc, &put.record, lines)?;
-    rows::insert_line(tx, put.number, place, &lines[place as usize])?;
-    Ok(())
-}
-
-/// Makes the lines of a record, where they are none yet.
-fn make_lines(alloc: Global, record: &Record, lines: &mut Vec<StoredLine>) -> Result<(), AllocError>
-    requires known { AreKnownOf lines.old.items «record».now }
-    ensures made { OnOk result ((lines.new.items ≡ stored «record».now) × IsShallow «record».now) }
-{
-    if lines.is_empty() {
-        *lines = lines_of(alloc, record)?;
-    }
+    let lines = lines_of(alloc, &put.record)?;
+    insert_lines(alloc, tx, put.number, &lines)?;
     Ok(())
 }

@@ -43,7 +43,7 @@ use Rattle.store_rows.proofs.Slips.{made_only}
 use Rattle.store_rows.proofs.SpansAside.{dated_only}
 use Rattle.staged_rows.specs.Staging.{
   StagedRow,
-  a_line,
+  a_pack,
   a_link,
   a_record,
   a_sought,
@@ -87,7 +87,7 @@ dated_closed changes drawn rows all =
 staged_batches : (rs : List StagedRow) (rows : Rows) → (with_staged rs rows).batches ≡ rows.batches
 staged_batches [] rows = refl
 staged_batches (a_record r ∷ rs) rows = staged_batches rs (with_staged_row (a_record r) rows)
-staged_batches (a_line n at l ∷ rs) rows = staged_batches rs (with_staged_row (a_line n at l) rows)
+staged_batches (a_pack n ls ∷ rs) rows = staged_batches rs (with_staged_row (a_pack n ls) rows)
 staged_batches (a_link l ∷ rs) rows = staged_batches rs (with_staged_row (a_link l) rows)
 staged_batches (a_sought n s ∷ rs) rows = staged_batches rs (with_staged_row (a_sought n s) rows)
 staged_batches (a_span n span ∷ rs) rows = staged_batches rs (with_staged_row (a_span n span) rows)

@@ -127,7 +127,7 @@ module _ (society : List ℕ) (c : Content) (rows : Rows) (r : Request) (changes
   acknowledged_again new exact none settled =
       let same = applies_nothing c changes (nothing_changes c r changes exact none) in
       let did = subst (λ d. Does c r (Ok changes.answer) d) same decided in
-      (c, rows, did, settled, keeps, (λ m e. (refl, refl)), λ closed. closed)
+      (c, rows, did, settled, keeps, (λ m e. (refl, refl, refl)), λ closed. closed)
 
   pub done_or_not : (s : State) → LeavesEither s rows changes → LeavesDoneOrNot s society c r
   done_or_not s either t leaves = elim (either t leaves) [
@@ -239,7 +239,7 @@ module _ (old new : State) (r : Request) (e : Refusal)
         (c, (c, did.0, refl), (has.0, did.1, has.2));
     rows = λ none society c rows was keeps.
         let did = refused (not_failed r (Err e) none) society c rows was keeps in
-        (c, rows, (c, rows, did.0, (λ m same. (refl, refl)), (refl, refl)), did.1, keeps, λ closed. closed);
+        (c, rows, (c, rows, did.0, (λ m same. (refl, refl, refl)), (refl, refl)), did.1, keeps, λ closed. closed);
     crash = left_by (is_storage e.kind) refl;
     clean = clean;
   }

@@ -45,7 +45,7 @@ use Rattle.archive_core.specs.declared.request.Request.{Request}
 use Rattle.archive_core.proofs.Serving.{request_sound}
 use Rattle.record_shapes.specs.Lists.{EachOf}
 use Rattle.store_tables.specs.Calls.{Good, LeavesOnly, Settled}
-use Rattle.store_tables.specs.Rows.{LineRow, RecordRow, Rows, with_batch}
+use Rattle.store_tables.specs.Rows.{LineRow, PackRow, RecordRow, Rows, with_batch}
 use Rattle.store_rows.specs.Links.{KeepsLinks}
 use Rattle.store_rows.specs.Meaning.{AllShallow, Means, is_closed}
 use Rattle.store_rows.specs.Shallow.{IsShallowPut}
@@ -131,6 +131,8 @@ LeavesOthers = (before rows : Rows) (i : Import) (c : Content) (m : ℕ) → IsB
     → IsAddition c i.changes → i.left ≡ [] → get c.records m ≡ get (applied c i.changes).records m
     → (filter (λ (l : LineRow). l.no == m) (with_published i.batch i.changes rows).lines ≡ filter
     (λ (l : LineRow). l.no == m) before.lines)
+    × (filter (λ (p : PackRow). p.no == m) (with_published i.batch i.changes rows).packs ≡ filter
+    (λ (p : PackRow). p.no == m) before.packs)
     × (filter (λ (r : RecordRow). r.no == m) (with_published i.batch i.changes rows).records ≡ filter
     (λ (r : RecordRow). r.no == m) before.records)
 
@@ -245,7 +247,15 @@ module _ (seen : InNoView) (law : IsNew) (society : List ℕ) (c : Content) (row
 
   fresh_none : (batch : ℕ) → IsFresh batch changes.puts rows → IsFresh batch none.puts rows
   fresh_none batch fresh =
-      record { unused = fresh.unused; records = fresh.records; numbers = tt; lines = tt; spans = tt; soughts = tt }
+      record {
+        unused = fresh.unused;
+        records = fresh.records;
+        numbers = tt;
+        lines = tt;
+        packs = tt;
+        spans = tt;
+        soughts = tt;
+      }
 
   adds_none : IsAddition c none
   adds_none = record { once = tt; free = tt; removals = adds.removals; slip = adds.slip }

@@ -133,7 +133,7 @@ acknowledged_begun mid s society c rows r a i begun did =
 pub acknowledged_before : (s : State) (society : List ℕ) (c : Content) (rows : Rows) (r : Request) (a : Answer)
     → Keeps society c rows → HasAnswered c rows r a s → AcknowledgedBy society c rows r a s
 acknowledged_before s society c rows r a keeps has =
-    (c, rows, has.0, has.1, keeps, (λ m same. (refl, refl)), λ closed. closed)
+    (c, rows, has.0, has.1, keeps, (λ m same. (refl, refl, refl)), λ closed. closed)
 
 -- it is just begun, and its answer is kept nowhere
 pub none_kept : (society : List ℕ) (c : Content) (before : Rows) (r : Request) (a : Answer) (i : Import) (s : State)

@@ -31,11 +31,11 @@ use Rattle.record_shapes.specs.Lists.{Ascends, EachOf}
 use Rattle.archive_state.specs.Sound.{IsSound}
 use Rattle.archive_state.specs.declared.changes.Numbered.{Numbered}
 use Rattle.archive_looks.specs.Exact.{ChangesNothing, IsExact}
-use Rattle.store_tables.specs.Rows.{LineRow, RecordRow, Rows}
+use Rattle.store_tables.specs.Rows.{LineRow, PackRow, RecordRow, Rows}
 use Rattle.store_rows.specs.Spans.{Drawn, with_dated_changes}
 use Rattle.store_rows.specs.Writing.{with_changes}
 use Rattle.store_rows.proofs.Got.{got_put, got_removed}
-use Rattle.store_rows.proofs.SpansAside.{dated_lines, dated_records}
+use Rattle.store_rows.proofs.SpansAside.{dated_lines, dated_only, dated_records}
 use Rattle.store_rows.proofs.Staying.{others_stay}
 use Rattle.store.specs.Calls.{KeepsRows}
 use Rattle.record_shapes.proofs.Each.{each_all, each_zip}
@@ -128,7 +128,8 @@ module _ (c : Content) (changes : Changes) (exact : IsExact c changes) where
   rows_stay drawn rows sound m same =
       let stay = with_changes_stay rows sound m same in (
         ap (filter (λ (l : LineRow). l.no == m)) (dated_lines changes drawn rows) ∙ stay.0,
-        ap (filter (λ (r : RecordRow). r.no == m)) (dated_records changes drawn rows) ∙ stay.1,
+        ap (λ (r : Rows). filter (λ (p : PackRow). p.no == m) r.packs) (dated_only changes drawn rows) ∙ stay.1,
+        ap (filter (λ (r : RecordRow). r.no == m)) (dated_records changes drawn rows) ∙ stay.2,
       )
 
 -- nothing changes

@@ -31,15 +31,17 @@ use Rattle.store_rows.specs.Meaning.{AllShallow}
 use Rattle.store_rows.specs.Spans.{AreDrawn, Drawn, with_dated_changes}
 use Rattle.store_tables.specs.Calls.{Good, LeavesOnly, Settled}
 use Rattle.store_tables.specs.Looking.{IsFailure}
-use Rattle.store_tables.specs.Rows.{Rows, LineRow, RecordRow}
+use Rattle.store_tables.specs.Rows.{Rows, LineRow, PackRow, RecordRow}
 use Rattle.staged_rows.specs.Staging.{AreAllClosed}
 use Rattle.store.specs.Archives.{HasArchive, IsArchive, Keeps, LeavesArchive}
 use Rattle.store.specs.Histories.{Accepts, MayBeFound, has_broken, in_doubt}
 
--- the rows of each number at which the same is before and after: its row in `record` and its lines, with their keys
+-- the rows of each number at which the same is before and after: its row in `record` and those with its lines, with
+-- their keys
 abbrev pub KeepsRows : Content → Content → Rows → Rows → Type 0
 KeepsRows c after rows now = (m : ℕ) → get c.records m ≡ get after.records m
     → (filter (λ (l : LineRow). l.no == m) now.lines ≡ filter (λ (l : LineRow). l.no == m) rows.lines)
+    × (filter (λ (p : PackRow). p.no == m) now.packs ≡ filter (λ (p : PackRow). p.no == m) rows.packs)
     × (filter (λ (r : RecordRow). r.no == m) now.records ≡ filter (λ (r : RecordRow). r.no == m) rows.records)
 
 -- no import is left open: where every batch was closed, every batch is closed

@@ -47,9 +47,17 @@ moved has has2 lines lines2 found found2 p q r h = rw (p, q, r) h
 
 -- ---- records
 pub puts_only : (ps : List Numbered) (rows : Rows) → with_puts_written ps rows
-    ≡ record rows { records = (with_record_rows ps rows).records; lines = (with_puts_written ps rows).lines }
+    ≡ record rows {
+      records = (with_record_rows ps rows).records;
+      lines = (with_puts_written ps rows).lines;
+      packs = (with_puts_written ps rows).packs;
+    }
 puts_only ps rows = lines_put_only ps (with_record_rows ps rows)
-    ∙ ap (λ (r : Rows). record r { lines = (with_puts_written ps rows).lines }) (rows_put_only ps rows)
+    ∙ ap (λ (r : Rows). record r {
+      lines = (with_puts_written ps rows).lines;
+      packs = (with_puts_written ps rows).packs;
+    })
+    (rows_put_only ps rows)
 
 puts_mean : (ps : List Numbered) (rows : Rows) (c : Content) → Means rows c
     → Means (with_puts_written ps rows) (with_all c ps)
@@ -68,7 +76,11 @@ puts_mean ps rows c h = subst (λ r. Means r (with_all c ps)) (sym (puts_only ps
 })
 
 pub removed_only : (ns : List ℕ) (rows : Rows) → without_records ns rows
-    ≡ record rows { records = (without_records ns rows).records; lines = (without_all_lines ns rows).lines }
+    ≡ record rows {
+      records = (without_records ns rows).records;
+      lines = (without_all_lines ns rows).lines;
+      packs = (without_all_lines ns rows).packs;
+    }
 removed_only ns rows = rows_removed_only ns (without_all_lines ns rows)
     ∙ ap (λ (r : Rows). record r { records = (without_records ns rows).records }) (lines_removed_only ns rows)
 

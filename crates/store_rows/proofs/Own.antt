@@ -73,6 +73,22 @@ module _ {X : Type 0} (key : X → ℕ) where
         | false ↦ λ e. rw e (none_left n xs)
       ] refl
 
+  -- a put where no row has the number
+  pub put_alone : (n : ℕ) (x : X) (xs : List X) → key x ≡ n → own n xs ≡ [] → own n (put_by key x xs) ≡ x ∷ []
+  put_alone n x [] here none = let same : (key x == n) ≡ true = grind (arith, nat_tests) in rw same refl
+  put_alone n x (y ∷ ys) here none =
+      let same : (key x == n) ≡ true = grind (arith, nat_tests) in
+      elim (key y == n) as (λ b. (key y == n) ≡ b → cond b (y ∷ own n ys) (own n ys) ≡ []
+      → own n (put_by key x (y ∷ ys)) ≡ x ∷ []) [
+        | true ↦ λ e clash. absurd cc
+        | false ↦ λ e left. elim (nat_cmp (key y) (key x)) as (λ o. own n
+            (match_ordering o (y ∷ put_by key x ys) (x ∷ ys) (x ∷ y ∷ ys)) ≡ x ∷ []) [
+              | Less ↦ rw e (put_alone n x ys here left)
+              | Equal ↦ rw same (ap (λ zs. x ∷ zs) left)
+              | Greater ↦ rw (same, e) (ap (λ zs. x ∷ zs) left)
+            ]
+      ] refl none
+
   pub others_left : (m n : ℕ) (xs : List X) → n ≢ m → own m (rest n xs) ≡ own m xs
   others_left m n [] off = refl
   others_left m n (x ∷ xs) off =

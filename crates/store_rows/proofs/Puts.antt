@@ -3,7 +3,6 @@ use Rattle.std.proofs.Common.{
   ◌≡◌,
   ◌≢◌,
   ℕ,
-  ◌+◌,
   Bool,
   true,
   false,
@@ -16,12 +15,12 @@ use Rattle.std.proofs.Common.{
   refl,
   sym,
   ap,
+  ap₂,
   ◌∙◌,
-  append_assoc,
 }
 use Rattle.std.specs.Prelude.{◌==◌, ◌&&◌, ◌||◌, Option, MatchOption}
-use Rattle.std.specs.List.{list_any}
-use Rattle.std.proofs.lemmas.List.{append-nil, map-append}
+use Rattle.std.specs.List.{list_any, flat_map}
+use Rattle.std.proofs.lemmas.List.{append-nil}
 use Rattle.stored_lines.specs.Line.{Label}
 use Rattle.record_kinds.specs.declared.record.Record.{Record}
 use Rattle.records.specs.Stored.{stored}
@@ -30,14 +29,12 @@ use Rattle.store_tables.specs.Rows.{
   Rows,
   RecordRow,
   LineRow,
+  PackRow,
   lines_of,
   with_record_row,
   without_record_row,
-  with_line,
-  with_lines,
   without_lines,
   with_changed_lines,
-  next_key,
 }
 use Rattle.store_rows.specs.Meaning.{is_closed, has_record}
 use Rattle.store_rows.specs.Writing.{
@@ -47,7 +44,7 @@ use Rattle.store_rows.specs.Writing.{
   without_all_lines,
   without_record_rows,
 }
-use Rattle.store_rows.proofs.Own.{own, put_here, put_elsewhere, none_left, others_left, more_here, more_elsewhere}
+use Rattle.store_rows.proofs.Own.{own, put_alone, put_here, put_elsewhere, none_left, others_left}
 use Rattle.list_laws.proofs.Numbers.{it, not_it}
 
 -- what the last item of a number says, or what was there
@@ -129,42 +126,34 @@ rows_removed n (k ∷ ns) rows = rows_removed n ns (without_record_row k rows) �
     (row_removed n k rows)
 
 -- ---- lines
-lines_more : (n at : ℕ) (ls : List (ℕ × Label)) (rows : Rows) → lines_of n (with_lines n at ls rows)
-    ≡ lines_of n rows ++ ls
-lines_more n at [] rows = sym (append-nil (lines_of n rows))
-lines_more n at (l ∷ ls) rows =
-    let line = λ (k : LineRow). k.line in
-    let key = λ (k : LineRow). k.no in
-    let new : LineRow = record { id = next_key (λ (k : LineRow). k.id) rows.lines; no = n; at = at; line = l } in
-    lines_more n (at + 1) ls (with_line n at l rows)
-    ∙ ap (λ (ks : List LineRow). map line ks ++ ls) (more_here key n new rows.lines refl)
-    ∙ ap (λ (ks : List (ℕ × Label)). ks ++ ls) (map-append line (own key n rows.lines) (new ∷ []))
-    ∙ append_assoc (lines_of n rows) (l ∷ []) ls
-
-pub lines_elsewhere : (m n at : ℕ) (ls : List (ℕ × Label)) (rows : Rows) → n ≢ m
-    → own (λ (l : LineRow). l.no) m (with_lines n at ls rows).lines ≡ own (λ (l : LineRow). l.no) m rows.lines
-lines_elsewhere m n at [] rows off = refl
-lines_elsewhere m n at (l ∷ ls) rows off =
-    lines_elsewhere m n (at + 1) ls (with_line n at l rows) off
-    ∙ more_elsewhere (λ (k : LineRow). k.no) m
-    (record { id = next_key (λ (k : LineRow). k.id) rows.lines; no = n; at = at; line = l }) rows.lines off
+-- the stored lines of rows with one line and of rows with all lines
+abbrev all_of : List LineRow → List PackRow → List (ℕ × Label)
+all_of ls ps = map (λ (l : LineRow). l.line) ls ++ flat_map (λ (p : PackRow). p.lines) ps
 
 pub changed_elsewhere : (m n : ℕ) (ls : List (ℕ × Label)) (rows : Rows) → n ≢ m
     → own (λ (l : LineRow). l.no) m (with_changed_lines n ls rows).lines ≡ own (λ (l : LineRow). l.no) m rows.lines
-changed_elsewhere m n ls rows off = lines_elsewhere m n 0 ls (without_lines n rows) off
-    ∙ others_left (λ (l : LineRow). l.no) m n rows.lines off
+changed_elsewhere m n ls rows off = others_left (λ (l : LineRow). l.no) m n rows.lines off
+
+pub packs_elsewhere : (m n : ℕ) (ls : List (ℕ × Label)) (rows : Rows) → n ≢ m
+    → own (λ (p : PackRow). p.no) m (with_changed_lines n ls rows).packs ≡ own (λ (p : PackRow). p.no) m rows.packs
+packs_elsewhere m n ls rows off =
+    put_elsewhere (λ (p : PackRow). p.no) m (record { no = n; lines = ls }) (without_lines n rows).packs off
+    ∙ others_left (λ (p : PackRow). p.no) m n rows.packs off
 
 changed_here : (n : ℕ) (ls : List (ℕ × Label)) (rows : Rows) → lines_of n (with_changed_lines n ls rows) ≡ ls
-changed_here n ls rows = lines_more n 0 ls (without_lines n rows)
-    ∙ ap (λ (ks : List LineRow). map (λ (l : LineRow). l.line) ks ++ ls)
-    (none_left (λ (l : LineRow). l.no) n rows.lines)
+changed_here n ls rows =
+    ap₂ all_of (none_left (λ (l : LineRow). l.no) n rows.lines)
+    (put_alone (λ (p : PackRow). p.no) n (record { no = n; lines = ls }) (without_lines n rows).packs refl
+    (none_left (λ (p : PackRow). p.no) n rows.packs))
+    ∙ append-nil ls
 
 pub line_put : (n k : ℕ) (ls : List (ℕ × Label)) (rows : Rows) → lines_of n (with_changed_lines k ls rows)
     ≡ cond (k == n) ls (lines_of n rows)
 line_put n k ls rows =
     elim (k == n) as (λ b. (k == n) ≡ b → lines_of n (with_changed_lines k ls rows) ≡ cond b ls (lines_of n rows)) [
       | true ↦ λ e. ap (λ j. lines_of n (with_changed_lines j ls rows)) (it k n e) ∙ changed_here n ls rows
-      | false ↦ λ e. ap (map (λ (l : LineRow). l.line)) (changed_elsewhere n k ls rows (not_it k n e))
+      | false ↦ λ e. ap₂ all_of (changed_elsewhere n k ls rows (not_it k n e))
+          (packs_elsewhere n k ls rows (not_it k n e))
     ] refl
 
 pub lines_put : (n : ℕ) (ps : List Numbered) (rows : Rows) → lines_of n (with_all_lines ps rows)
@@ -178,10 +167,11 @@ lines_put n (p ∷ ps) rows =
 line_removed : (n k : ℕ) (rows : Rows) → lines_of n (without_lines k rows) ≡ cond (k == n) [] (lines_of n rows)
 line_removed n k rows =
     elim (k == n) as (λ b. (k == n) ≡ b → lines_of n (without_lines k rows) ≡ cond b [] (lines_of n rows)) [
-      | true ↦ λ e. ap (λ j. lines_of n (without_lines j rows)) (it k n e) ∙ ap (map (λ (l : LineRow). l.line))
-          (none_left (λ (l : LineRow). l.no) n rows.lines)
-      | false ↦ λ e. ap (map (λ (l : LineRow). l.line))
-          (others_left (λ (l : LineRow). l.no) n k rows.lines (not_it k n e))
+      | true ↦ λ e. ap (λ j. lines_of n (without_lines j rows)) (it k n e)
+          ∙ ap₂ all_of (none_left (λ (l : LineRow). l.no) n rows.lines)
+          (none_left (λ (p : PackRow). p.no) n rows.packs)
+      | false ↦ λ e. ap₂ all_of (others_left (λ (l : LineRow). l.no) n k rows.lines (not_it k n e))
+          (others_left (λ (p : PackRow). p.no) n k rows.packs (not_it k n e))
     ] refl
 
 pub lines_removed : (n : ℕ) (ns : List ℕ) (rows : Rows) → lines_of n (without_all_lines ns rows)
@@ -201,20 +191,12 @@ pub rows_removed_only : (ns : List ℕ) (rows : Rows) → without_record_rows ns
 rows_removed_only [] rows = refl
 rows_removed_only (n ∷ ns) rows = rows_removed_only ns (without_record_row n rows)
 
-pub lines_only : (n at : ℕ) (ls : List (ℕ × Label)) (rows : Rows) → with_lines n at ls rows
-    ≡ record rows { lines = (with_lines n at ls rows).lines }
-lines_only n at [] rows = refl
-lines_only n at (l ∷ ls) rows = lines_only n (at + 1) ls (with_line n at l rows)
-
 pub lines_put_only : (ps : List Numbered) (rows : Rows) → with_all_lines ps rows
-    ≡ record rows { lines = (with_all_lines ps rows).lines }
+    ≡ record rows { lines = (with_all_lines ps rows).lines; packs = (with_all_lines ps rows).packs }
 lines_put_only [] rows = refl
-lines_put_only (p ∷ ps) rows =
-    let after : Rows = with_changed_lines p.number (stored p.«record») rows in
-    lines_put_only ps after ∙ ap (λ (r : Rows). record r { lines = (with_all_lines ps after).lines })
-    (lines_only p.number 0 (stored p.«record») (without_lines p.number rows))
+lines_put_only (p ∷ ps) rows = lines_put_only ps (with_changed_lines p.number (stored p.«record») rows)
 
 pub lines_removed_only : (ns : List ℕ) (rows : Rows) → without_all_lines ns rows
-    ≡ record rows { lines = (without_all_lines ns rows).lines }
+    ≡ record rows { lines = (without_all_lines ns rows).lines; packs = (without_all_lines ns rows).packs }
 lines_removed_only [] rows = refl
 lines_removed_only (n ∷ ns) rows = lines_removed_only ns (without_lines n rows)

@@ -4,8 +4,16 @@ use Rattle.sqlite.specs.State.{State}
 use Rattle.stored_lines.specs.Line.{Label}
 use Rattle.receipts.specs.declared.answer.Receipt.{Receipt}
 use Rattle.archive_state.specs.Content.{Content}
-use Rattle.store_tables.specs.Reading.{ReadRows, read_line, read_of, read_receipt, read_record, read_slip_line}
-use Rattle.store_tables.specs.Rows.{LineRow, ReceiptRow, RecordRow, Rows, SlipLineRow}
+use Rattle.store_tables.specs.Reading.{
+  ReadRows,
+  read_line,
+  read_of,
+  read_pack,
+  read_receipt,
+  read_record,
+  read_slip_line,
+}
+use Rattle.store_tables.specs.Rows.{LineRow, PackRow, ReceiptRow, RecordRow, Rows, SlipLineRow}
 use Rattle.store_tables.specs.Showing.{ShowsRead, ShowsRows}
 use Rattle.store_rows.specs.Meaning.{Means}
 
@@ -16,6 +24,9 @@ record_of r = record { no = r.0; kind = []; batch = r.1 }
 
 abbrev line_of : ℕ × (ℕ × Label) → LineRow
 line_of l = record { id = 0; no = l.0; at = 0; line = l.1 }
+
+abbrev pack_of : ℕ × List (ℕ × Label) → PackRow
+pack_of p = record { no = p.0; lines = p.1 }
 
 abbrev receipt_of : List ℕ × Receipt → ReceiptRow
 receipt_of r = record { id = 0; token = r.0; receipt = r.1 }
@@ -32,6 +43,7 @@ rows_of has_spans read = record {
   batches = read.batches;
   records = map record_of read.records;
   lines = map line_of read.lines;
+  packs = map pack_of read.packs;
   receipts = map receipt_of read.receipts;
   slips = read.slips;
   slip_lines = map slip_line_row read.slip_lines;
@@ -58,22 +70,24 @@ read_back has_spans read =
       batches = read.batches;
       records = read.records;
       lines = read.lines;
+      packs = read.packs;
       receipts = read.receipts;
       slips = read.slips;
       slip_lines = read.slip_lines;
     } = rw (
       back record_of read_record pair read.records,
       back line_of read_line pair read.lines,
+      back pack_of read_pack pair read.packs,
       back receipt_of read_receipt pair read.receipts,
       back slip_line_row read_slip_line nested read.slip_lines,
     ) refl in
     same
 
 pub shown_rows : (old : State) (has_spans : Bool) (read : ReadRows) (c : Content) → ((rows : Rows) → read_of rows ≡ read
-    → Means rows c) → ShowsRead read old old → (rows : Rows) × ShowsRows rows old × Means rows c
+    → Means rows c) → ShowsRead has_spans read old old → (rows : Rows) × ShowsRows rows old × Means rows c
 shown_rows old has_spans read c means shown =
     let same = read_back has_spans read in (
       rows_of has_spans read,
-      subst (λ r. ShowsRead r old old) (sym same) shown,
+      subst (λ r. ShowsRead has_spans r old old) (sym same) shown,
       means (rows_of has_spans read) same,
     )

@@ -20,8 +20,6 @@ use Rattle.store_tables.specs.Rows.{
   LinkRow,
   SoughtRow,
   with_changed_lines,
-  with_line,
-  with_lines,
   with_next,
   with_record_row,
   with_slip_line,
@@ -112,16 +110,9 @@ module _ (ss : List SpanRow) (ls : List LinkRow) (qs : List SoughtRow) where
   rows_aside [] rows = refl
   rows_aside (p ∷ ps) rows = rows_aside ps (with_record_row p.number (kind_word p.«record») 0 rows)
 
-  more_lines_aside : (n at : ℕ) (ls : List (ℕ × Label)) (rows : Rows) → with_lines n at ls (aside rows)
-      ≡ aside (with_lines n at ls rows)
-  more_lines_aside n at [] rows = refl
-  more_lines_aside n at (l ∷ ls) rows = more_lines_aside n (at + 1) ls (with_line n at l rows)
-
   lines_aside : (ps : List Numbered) (rows : Rows) → with_all_lines ps (aside rows) ≡ aside (with_all_lines ps rows)
   lines_aside [] rows = refl
-  lines_aside (p ∷ ps) rows =
-      ap (with_all_lines ps) (more_lines_aside p.number 0 (stored p.«record») (without_lines p.number rows))
-      ∙ lines_aside ps (with_changed_lines p.number (stored p.«record») rows)
+  lines_aside (p ∷ ps) rows = lines_aside ps (with_changed_lines p.number (stored p.«record») rows)
 
   lines_left_aside : (ns : List ℕ) (rows : Rows) → without_all_lines ns (aside rows)
       ≡ aside (without_all_lines ns rows)

@@ -1,19 +1,48 @@
 -- What rows mean, from what is read of them.
-use Rattle.std.proofs.Common.{◌≡◌, ℕ, Bool, true, false, refl, sym, ap, ◌∙◌, cond, subst, ◌⊎◌, inl, inr, List, [], ◌∷◌}
+use Rattle.std.proofs.Common.{
+  ◌≡◌,
+  ℕ,
+  Bool,
+  true,
+  false,
+  refl,
+  sym,
+  ap,
+  ap₂,
+  ◌∙◌,
+  ◌++◌,
+  cond,
+  subst,
+  ◌⊎◌,
+  inl,
+  inr,
+  List,
+  [],
+  ◌∷◌,
+}
 use Rattle.std.specs.Prelude.{Option, Some, None, ◌==◌, ◌&&◌, ◌||◌, map, filter, fold}
-use Rattle.std.specs.List.{list_any}
+use Rattle.std.specs.List.{list_any, flat_map}
 use Rattle.std.specs.FinMap.{get, insert, empty}
 use Rattle.stored_lines.specs.Line.{Label}
 use Rattle.record_kinds.specs.declared.record.Record.{Record}
 use Rattle.records.specs.Shallow.{IsShallow}
 use Rattle.archive_state.specs.Content.{Content, Receipts, nothing}
 use Rattle.archive_state.specs.Slips.{Slip}
-use Rattle.store_tables.specs.Rows.{Rows, RecordRow, LineRow, ReceiptRow, SlipLineRow, lines_of, slip_line_of}
-use Rattle.store_tables.specs.Reading.{ReadRows, read_of, read_record, read_line, read_receipt, read_slip_line}
+use Rattle.store_tables.specs.Rows.{Rows, RecordRow, LineRow, PackRow, ReceiptRow, SlipLineRow, lines_of, slip_line_of}
+use Rattle.store_tables.specs.Reading.{
+  ReadRows,
+  read_of,
+  read_record,
+  read_line,
+  read_pack,
+  read_receipt,
+  read_slip_line,
+}
 use Rattle.store_rows.specs.Meaning.{is_closed, slip_row_at, IsRecordAt, IsSlipAt, IsShallowSlip, Means, AreReadable}
 use Rattle.store_rows.specs.Sides.{SideLine}
 use Rattle.store_rows.specs.Grouped.{
   items_at,
+  stored_at,
   is_recorded,
   with_kept,
   IsKeptAs,
@@ -38,6 +67,25 @@ lines_same n (l ∷ ls) = go (l.no == n) (lines_same n ls)
         (cond b (l ∷ filter (λ (l : LineRow). l.no == n) ls) (filter (λ (l : LineRow). l.no == n) ls))
     go true e = ap (λ t. l.line ∷ t) e
     go false e = e
+
+packs_same : (n : ℕ) (ps : List PackRow) → flat_map (λ (ls : List (ℕ × Label)). ls) (items_at n (map read_pack ps))
+    ≡ flat_map (λ (p : PackRow). p.lines) (filter (λ (p : PackRow). p.no == n) ps)
+packs_same n [] = refl
+packs_same n (p ∷ ps) =
+    elim (p.no == n) as (λ b. flat_map (λ (ls : List (ℕ × Label)). ls)
+    (map (λ (q : ℕ × List (ℕ × Label)). q.1)
+    (cond b (read_pack p ∷ filter (λ (q : ℕ × List (ℕ × Label)). q.0 == n) (map read_pack ps))
+    (filter (λ (q : ℕ × List (ℕ × Label)). q.0 == n) (map read_pack ps))))
+    ≡ flat_map (λ (q : PackRow). q.lines)
+    (cond b (p ∷ filter (λ (q : PackRow). q.no == n) ps) (filter (λ (q : PackRow). q.no == n) ps))) [
+      | true ↦ ap (λ ls. p.lines ++ ls) (packs_same n ps)
+      | false ↦ packs_same n ps
+    ]
+
+-- the lines of a number, of either schema
+pub stored_same : (n : ℕ) (rows : Rows) → stored_at (map read_line rows.lines) (map read_pack rows.packs) n
+    ≡ lines_of n rows
+stored_same n rows = ap₂ (λ ls ms. ls ++ ms) (lines_same n rows.lines) (packs_same n rows.packs)
 
 pub slip_lines_same : (n : ℕ) (ls : List SlipLineRow) → items_at n (map read_slip_line ls) ≡ map slip_line_of
     (filter (λ (s : SlipLineRow). s.slip == n) ls)
@@ -67,7 +115,7 @@ kept_same m (r ∷ rs) = kept_same (insert m r.token r.receipt) rs
 -- what is read means a content
 pub record ReadsAs (read : ReadRows) (c : Content) : Type 0 where
   pub batch : is_closed 0 read.batches ≡ true
-  pub records : AreRecordsOf (λ n. is_closed n read.batches) (λ n. items_at n read.lines) read.records c.records
+  pub records : AreRecordsOf (λ n. is_closed n read.batches) (stored_at read.lines read.packs) read.records c.records
   pub next : read.next ≡ c.next
   pub receipts : c.receipts ≡ fold with_kept empty read.receipts
   pub slips : AreSlipsOf (λ n. items_at n read.slip_lines) read.slips c.slips
@@ -78,7 +126,7 @@ means_of rows c reads = record {
   records = λ n. subst (λ b. IsKeptAs b (lines_of n rows) (get c.records n))
       (recorded_same (λ k. is_closed k rows.batches) n rows.records)
       (subst (λ ls. IsKeptAs (is_recorded (λ k. is_closed k rows.batches) (map read_record rows.records) n) ls
-      (get c.records n)) (lines_same n rows.lines) (reads.records n));
+      (get c.records n)) (stored_same n rows) (reads.records n));
   next = reads.next;
   receipts = reads.receipts ∙ kept_same empty rows.receipts;
   slips = λ n. subst (λ ls. IsSlipBy n (slip_row_at n rows.slips) ls (get c.slips n))
@@ -92,11 +140,11 @@ meant rows read c same reads = means_of rows c (subst (λ (r : ReadRows). ReadsA
 pub put_together : (read : ReadRows) (s0 s1 s2 s3 : Content) → s0 ≡ record nothing { next = read.next }
     → s1 ≡ record s0 { records = s1.records } → s2 ≡ record s1 { slips = s2.slips }
     → s3 ≡ record s2 { receipts = fold with_kept s2.receipts read.receipts } → is_closed 0 read.batches ≡ true
-    → AreRecordsOf (λ n. is_closed n read.batches) (λ n. items_at n read.lines) read.records s1.records
+    → AreRecordsOf (λ n. is_closed n read.batches) (stored_at read.lines read.packs) read.records s1.records
     → AreSlipsOf (λ n. items_at n read.slip_lines) read.slips s2.slips → ReadsAs read s3
 put_together read s0 s1 s2 s3 e0 e1 e2 e3 batch records slips = record {
   batch = batch;
-  records = subst (AreRecordsOf (λ n. is_closed n read.batches) (λ n. items_at n read.lines) read.records)
+  records = subst (AreRecordsOf (λ n. is_closed n read.batches) (stored_at read.lines read.packs) read.records)
       (sym (ap (λ (s : Content). s.records) e3 ∙ ap (λ (s : Content). s.records) e2)) records;
   next = sym (ap (λ (s : Content). s.next) e3 ∙ ap (λ (s : Content). s.next) e2 ∙ ap (λ (s : Content). s.next) e1
       ∙ ap (λ (s : Content). s.next) e0);
@@ -114,14 +162,14 @@ no_batch rows e readable = let means : Means rows readable.0 = readable.1 in
     let no : true ≡ false = sym means.batch ∙ e in absurd cc
 
 no_record : (rows : Rows) → LacksRecord (λ n. is_closed n rows.batches) (map read_record rows.records)
-    (λ n. items_at n (map read_line rows.lines)) → AreReadable rows → ⊥
+    (stored_at (map read_line rows.lines) (map read_pack rows.packs)) → AreReadable rows → ⊥
 no_record rows (n, there, none) readable = go (get readable.0.records n) (λ r. readable.2.records n r)
     (readable.1.records n)
   where
     go : (found : Option Record) → ((r : Record) → found ≡ Some r → IsShallow r) → IsRecordAt rows n found → ⊥
     go None shallow absent = let no : true ≡ false = sym there ∙ recorded_same (λ k. is_closed k rows.batches) n
         rows.records ∙ absent in absurd cc
-    go (Some r) shallow is = none r (shallow r refl) (lines_same n rows.lines ∙ is.1)
+    go (Some r) shallow is = none r (shallow r refl) (stored_same n rows ∙ is.1)
 
 no_slip : (rows : Rows) → LacksChanges rows.slips (λ n. items_at n (map read_slip_line rows.slip_lines))
     → AreReadable rows → ⊥
@@ -133,13 +181,13 @@ no_slip rows (n, there, none) readable = go (get readable.0.slips n) (λ s. read
 
 -- the same of what is read of them
 pub no_records : (rows : Rows) (read : ReadRows) → read_of rows ≡ read → (is_closed 0 read.batches ≡ false)
-    ⊎ LacksRecord (λ n. is_closed n read.batches) read.records (λ n. items_at n read.lines) → AreReadable rows → ⊥
+    ⊎ LacksRecord (λ n. is_closed n read.batches) read.records (stored_at read.lines read.packs) → AreReadable rows → ⊥
 no_records rows read same lacks =
     go (subst (λ (r : ReadRows). (is_closed 0 r.batches ≡ false) ⊎ LacksRecord (λ n. is_closed n r.batches) r.records
-    (λ n. items_at n r.lines)) (sym same) lacks)
+    (stored_at r.lines r.packs)) (sym same) lacks)
   where
     go : (is_closed 0 rows.batches ≡ false) ⊎ LacksRecord (λ n. is_closed n rows.batches) (map read_record rows.records)
-        (λ n. items_at n (map read_line rows.lines)) → AreReadable rows → ⊥
+        (stored_at (map read_line rows.lines) (map read_pack rows.packs)) → AreReadable rows → ⊥
     go (inl e) = no_batch rows e
     go (inr bad) = no_record rows bad
 

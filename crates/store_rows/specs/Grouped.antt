@@ -11,6 +11,7 @@ use Rattle.std.specs.Prelude.{
   false,
   List,
   [],
+  ◌++◌,
   map,
   filter,
   fold,
@@ -43,6 +44,10 @@ use Rattle.store_rows.specs.Meaning.{change_lines, slip_row, slip_row_at}
 -- the items under a key, in order
 abbrev pub items_at : {X : Type 0} → ℕ → List (ℕ × X) → List X
 items_at {X} n ps = map (λ (p : ℕ × X). p.1) (filter (λ (p : ℕ × X). p.0 == n) ps)
+
+-- the stored lines of a number: those in rows of their own, and those that a row has together
+abbrev pub stored_at : List (ℕ × (ℕ × Label)) → List (ℕ × List (ℕ × Label)) → ℕ → List (ℕ × Label)
+stored_at lines packs n = items_at n lines ++ flat_map (λ (ls : List (ℕ × Label)). ls) (items_at n packs)
 
 -- the same of a map of groups
 abbrev pub group_at : {X : Type 0} → BTreeMap ℕ (Vec X) → ℕ → List X

@@ -8,8 +8,7 @@ ghost use Rattle.archive_state.specs.Content.{Content};
 ghost use Rattle.archive_state.specs.Referrers.{referrers};
 ghost use Rattle.record_shapes.specs.Lists.{EachOf};
 ghost use Rattle.archive_state.specs.declared.changes.Numbered.{Numbered};
-ghost use Rattle.store_tables.specs.Keyed.{lines_naming};
-ghost use Rattle.store_tables.specs.Rows.{Rows, LineRow, RecordRow};
+ghost use Rattle.store_tables.specs.Rows.{Rows, LineRow, PackRow, RecordRow};
 ghost use Rattle.store_rows.specs.Links.{KeepsLinks};
 ghost use Rattle.store_rows.specs.Meaning.{Means, has_record};
 ghost use Rattle.store_rows.specs.Sought.{KeepsSought};
@@ -59,20 +58,14 @@ pub fn spans_say_nothing_of_records()
         → IsDated (with_dated_changes changes drawn rows) }
 {}
 
-/// Changes leave the rows of every number that they neither put nor take out: its row in `record` and its lines,
-/// each with its id, in their order.
+/// Changes leave the rows of every number that they neither put nor take out: its row in `record`, and its lines.
 pub fn rows_of_other_numbers_stay()
     ensures { (changes : Changes) (rows : Rows) (m : ℕ)
         → EachOf (λ (p : Numbered). p.number ≢ m) changes.puts → EachOf (λ n. n ≢ m) changes.removals
         → (filter (λ (l : LineRow). l.no == m) (with_changes changes rows).lines ≡ filter
         (λ (l : LineRow). l.no == m) rows.lines)
+        × (filter (λ (p : PackRow). p.no == m) (with_changes changes rows).packs ≡ filter
+        (λ (p : PackRow). p.no == m) rows.packs)
         × (filter (λ (r : RecordRow). r.no == m) (with_changes changes rows).records ≡ filter
         (λ (r : RecordRow). r.no == m) rows.records) }
-{}
-
-/// Of rows that mean a content, a number is among the referrers of another exactly where it has a record and a line
-/// of it names the other.
-pub fn the_lines_that_name_a_number_tell_its_referrers()
-    ensures { (rows : Rows) (c : Content) (n m : ℕ) → Means rows c
-        → list_any (λ k. k == m) (referrers c n) ≡ (has_record m rows && list_any (λ k. k == m) (lines_naming n rows)) }
 {}

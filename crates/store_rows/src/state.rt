@@ -13,6 +13,7 @@ ghost use Rattle.store_rows.specs.Meaning.{AreReadable, Means, is_closed, change
 ghost use Rattle.store_rows.specs.Sides.{NoChanges};
 ghost use Rattle.store_rows.specs.Grouped.{
   items_at,
+  stored_at,
   group_at,
   slip_group_at,
   with_kept,
@@ -31,7 +32,9 @@ use record_text::RefusalKind;
 use records::{Record, record_of};
 use std::alloc::{AllocError, Global};
 use std::collections::{BTreeMap, BTreeSet};
-use store_tables::{BatchRow, LineRow, ReceiptRow, RecordRow, SlipLineRow, SlipRow, StoredRows};
+use store_tables::{
+    BatchRow, LineRow, PackRow, ReceiptRow, RecordRow, SlipLineRow, SlipRow, StoredRows,
+};
 use stored_lines::StoredLine;
 
 /// The state that rows mean, whichever rows were read as these. 40: they are not readable, since batch 0 is not
@@ -47,13 +50,14 @@ pub(crate) fn state_of(alloc: Global, read: StoredRows) -> Result<State, Refusal
         batches,
         records,
         lines,
+        packs,
         receipts,
         slips,
         slip_lines,
     } = read;
     let mut state = State::new(alloc);
     state.set_next(next);
-    fill_records(alloc, &mut state, &batches, &records, lines)?;
+    fill_records(alloc, &mut state, &batches, &records, lines, packs)?;
     fill_slips(alloc, &mut state, &slips, slip_lines)?;
     put_receipts(&mut state, receipts)?;
     Ok(state)
@@ -67,21 +71,23 @@ fn fill_records(
     batches: &[BatchRow],
     rows: &[RecordRow],
     lines: Vec<LineRow>,
+    packs: Vec<PackRow>,
 ) -> Result<(), RefusalKind>
     requires none { state.old.records ≡ map.empty }
     ensures batch { OnOk result (is_closed 0 batches.now ≡ true) }
     ensures read { OnOk result
-        (AreRecordsOf (λ n. is_closed n batches.now) (λ n. items_at n lines.items) rows.now state.new.records) }
+        (AreRecordsOf (λ n. is_closed n batches.now) (stored_at lines.items packs.items) rows.now
+        state.new.records) }
     ensures others { OnOk result (state.new ≡ record state.old { records = state.new.records }) }
     ensures refused { IfErr result (IsRefusedBy
         ((is_closed 0 batches.now ≡ false)
-        ⊎ LacksRecord (λ n. is_closed n batches.now) rows.now (λ n. items_at n lines.items))) }
+        ⊎ LacksRecord (λ n. is_closed n batches.now) rows.now (stored_at lines.items packs.items))) }
 {
     let closed = closed_batches(alloc, batches)?;
     if !closed.contains(&0) {
         return Err(RefusalKind::BadStored);
     }
-    let groups = grouped_lines(alloc, lines)?;
+    let groups = grouped_lines(alloc, lines, packs)?;
     put_records(alloc, state, &closed, &groups, rows)
 }
 

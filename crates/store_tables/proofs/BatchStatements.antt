@@ -14,16 +14,13 @@ use Rattle.std.proofs.Common.{
   ◌++◌,
   map,
   filter,
-  not,
   if◌then◌else◌,
-  nat_lt,
   Ok,
   Some,
   None,
   refl,
   sym,
   ap,
-  ap₂,
   subst,
   ◌∙◌,
   inl,
@@ -31,14 +28,12 @@ use Rattle.std.proofs.Common.{
   length,
   arith,
 }
-use Rattle.std.specs.Ordering.{is_ge}
 use Rattle.std.specs.List.{list_all, AllByRecursion, cons_option}
 use Rattle.std.specs.List.Sorted.{IsPermutation}
-use Rattle.std.proofs.lemmas.Bool.Decides.{nat_tests}
 use Rattle.std.proofs.lemmas.List.Sorted.{IsPermutation-map, length_permutation}
 use Rattle.sqlite_rules.specs.Edit.{without_all}
 use Rattle.sqlite.specs.declared.types.Value.TheVariants.{Null, Int}
-use Rattle.sqlite.specs.Order.{Row, value_cmp}
+use Rattle.sqlite.specs.Order.{Row}
 use Rattle.sqlite.specs.Ops.{is_true, from_truth, binary}
 use Rattle.sqlite.specs.Term.{holds, eval_all, col, lit}
 use Rattle.sqlite.specs.Tree.{rowid, put_row}
@@ -55,20 +50,8 @@ use Rattle.sqlite_rules.specs.Action.{works, Work, Writes}
 use Rattle.sqlite.specs.State.{State, Executes}
 use Rattle.sqlite.proofs.Callers.{runs_as, one_step, one_permutation, statement_of}
 use Rattle.sqlite.specs.Listing.{understood}
-use Rattle.store_tables.specs.Schema.{archive_schema, batches, lines}
-use Rattle.store_tables.specs.Rows.{
-  Rows,
-  BatchRow,
-  LineRow,
-  Holds,
-  Keeps,
-  batch_values,
-  line_values,
-  with_closed,
-  without_batch_row,
-  is_line_from,
-  without_lines_from,
-}
+use Rattle.store_tables.specs.Schema.{archive_schema, batches}
+use Rattle.store_tables.specs.Rows.{Rows, BatchRow, Holds, Keeps, batch_values, with_closed, without_batch_row}
 use Rattle.store_tables.proofs.BatchTexts.{
   close_batch,
   close_batch_is,
@@ -76,17 +59,13 @@ use Rattle.store_tables.proofs.BatchTexts.{
   delete_batch,
   delete_batch_is,
   delete_batch_plain,
-  delete_lines_from,
-  delete_lines_from_is,
-  delete_lines_from_plain,
-  from_place,
 }
 use Rattle.store_tables.proofs.Texts.{with_key}
 use Rattle.store_tables.proofs.Writing.{updates, deletes, cast_int, cast_null, Restrict, restricted_step}
 use Rattle.store_tables.proofs.Finding.{simple, answered}
-use Rattle.store_tables.proofs.Coded.{same_int, int_order, keeps_less, keeps_on}
+use Rattle.store_tables.proofs.Coded.{same_int, keeps_less, keeps_on}
 use Rattle.store_tables.proofs.Changing.{at_key, none_changed, keeps_changed}
-use Rattle.store_tables.proofs.Statements.{Becomes, becomes, no_work, others_of, later_on, truth_of}
+use Rattle.store_tables.proofs.Statements.{Becomes, becomes, no_work, others_of, own_on, truth_of}
 use Rattle.list_laws.proofs.Lists.{map_map}
 
 permutation_none : {X : Type 0} (ys : List X) → IsPermutation [] ys → ys ≡ []
@@ -129,7 +108,7 @@ closes_batch old new n count b has h =
     let shown = (λ (x : BatchRow). eval_all project (params ∷ batch_values x ∷ [])) in
     let found = (λ (rows : Rows) (was : Holds rows db). answered batch_values params (with_key 0) (λ x. x.no == n)
     (passes_1 n) 1 project [] (overlay db []) rows.batches read was.batches.is (did.2.answer Null)) in
-    becomes b old new w.sound did.0 (λ _. refl) (λ rows was.
+    becomes b old new w.sound did.0 (λ _. refl) (λ rows fits was.
     elim (at_key key n rows.batches was.batches.rise) [
       | inl none ↦
           let empty : read ≡ [] = permutation_none read
@@ -144,11 +123,10 @@ closes_batch old new n count b has h =
             batches = subst (λ xs. Keeps batch_values key xs (now 1))
                 (sym (none_changed key n g rows.batches none)) (keeps_on _ _ (now 1) applied.rows was.batches);
             records = keeps_on _ _ _ (same 2 (omega arith) (omega arith)) was.records;
-            lines = keeps_on _ _ _ (same 3 (omega arith) (omega arith)) was.lines;
             receipts = keeps_on _ _ _ (same 4 (omega arith) (omega arith)) was.receipts;
             slips = keeps_on _ _ _ (same 5 (omega arith) (omega arith)) was.slips;
             slip_lines = keeps_on _ _ _ (same 6 (omega arith) (omega arith)) was.slip_lines;
-            later = later_on b rows db now edit applied (omega arith) was.later;
+            own = own_on b rows db now edit applied (omega arith) (omega arith) fits was.own;
           }
       | inr (x, one, here) ↦
           let single : read ≡ shown x ∷ [] = one_permutation _ read
@@ -167,11 +145,10 @@ closes_batch old new n count b has h =
             batches = keeps_on _ _ (now 1) (applied.rows ∙ row ∙ away)
                 (keeps_changed batch_values key (λ _. refl) n g x rows.batches (db 1) one here here was.batches);
             records = keeps_on _ _ _ (same 2 (omega arith) (omega arith)) was.records;
-            lines = keeps_on _ _ _ (same 3 (omega arith) (omega arith)) was.lines;
             receipts = keeps_on _ _ _ (same 4 (omega arith) (omega arith)) was.receipts;
             slips = keeps_on _ _ _ (same 5 (omega arith) (omega arith)) was.slips;
             slip_lines = keeps_on _ _ _ (same 6 (omega arith) (omega arith)) was.slip_lines;
-            later = later_on b rows db now edit applied (omega arith) was.later;
+            own = own_on b rows db now edit applied (omega arith) (omega arith) fits was.own;
           }
     ])
 
@@ -192,7 +169,7 @@ deletes_batch old new n count b has h =
     let applied = restricted_step (archive_schema b) Enforced db now edit (only_restricted b (taken_by db edit)) did.3
     in
     let same = others_of b db now edit applied in
-    becomes b old new w.sound did.0 (λ _. refl) (λ rows was.
+    becomes b old new w.sound did.0 (λ _. refl) (λ rows fits was.
     let all = answered batch_values params (with_key 0) (λ x. x.no == n) (passes_1 n) 1 (col 1 0 ∷ []) []
     (overlay db []) rows.batches found was.batches.is (did.2.answer Null) in
     let ids : IsPermutation
@@ -206,67 +183,8 @@ deletes_batch old new n count b has h =
           (keeps_less batch_values (λ (b : BatchRow). b.no) (λ _. refl) (λ x. x.no == n) rows.batches (db 1)
           (ids_of found) ids was.batches);
       records = keeps_on _ _ _ (same 2 (omega arith) (omega arith)) was.records;
-      lines = keeps_on _ _ _ (same 3 (omega arith) (omega arith)) was.lines;
       receipts = keeps_on _ _ _ (same 4 (omega arith) (omega arith)) was.receipts;
       slips = keeps_on _ _ _ (same 5 (omega arith) (omega arith)) was.slips;
       slip_lines = keeps_on _ _ _ (same 6 (omega arith) (omega arith)) was.slip_lines;
-      later = later_on b rows db now edit applied (omega arith) was.later;
-    })
-
--- ---- the lines of a number from a place on
-
-not_below : (m n : ℕ) → is_ge (value_cmp (Int (pos m)) (Int (pos n))) ≡ not (nat_lt m n)
-not_below m n = ap is_ge (int_order m n) ∙ grind (arith, nat_tests)
-
-both_true : (a b : Bool) → (is_true (from_truth (Some a)) && (is_true (from_truth (Some b)) && true)) ≡ (a && b)
-both_true true true = refl
-both_true true false = refl
-both_true false b = refl
-
-passes_3 : (n at : ℕ) (x : LineRow) → list_all (holds ((Int (pos n) ∷ Int (pos at) ∷ []) ∷ line_values x ∷ []))
-    from_place ≡ is_line_from n at x
-unfolding binary
-passes_3 n at x =
-    ap₂ (λ a b. is_true (from_truth (Some a)) && (is_true (from_truth (Some b)) && true)) (same_int x.no n)
-    (not_below x.at at) ∙ both_true (x.no == n) (not (nat_lt x.at at))
-
-no_work_3 : (b : Bool) (olds : List Row) → works (archive_schema b) Enforced 0 3 olds [] ≡ []
-unfolding same_name joined
-no_work_3 false olds = refl
-no_work_3 true olds = refl
-
-pub deletes_lines_from : (old new : State) (n at count : ℕ) (b : Bool) → old.now.schema ≡ archive_schema b
-    → Executes delete_lines_from (Int (pos n) ∷ Int (pos at) ∷ []) old new (Ok count)
-    → Becomes b old new (without_lines_from n at)
-deletes_lines_from old new n at count b has h =
-    let params = Int (pos n) ∷ Int (pos at) ∷ [] in
-    let q : Program = record { lets = []; body = simple 3 from_place (col 1 0 ∷ []) [] } in
-    let w = runs_as delete_lines_from params old new (archive_schema b) has (Delete 3 q) (delete_lines_from_is b)
-    (delete_lines_from_plain b) count h in
-    let did = deletes (archive_schema b) lines 3 refl refl old new.now w.tally params
-    (statement_of delete_lines_from (understood (archive_schema b) delete_lines_from)) q has w.changed in
-    let found = did.1 in
-    let db = old.now.trees in
-    let now = new.now.trees in
-    let edit = edit_of db lines (ids_of found) Given 0 [] in
-    let applied = one_step (archive_schema b) Enforced db now edit (no_work_3 b (taken_by db edit)) did.3 in
-    let same = others_of b db now edit applied in
-    becomes b old new w.sound did.0 (λ _. refl) (λ rows was.
-    let all = answered line_values params from_place (is_line_from n at) (passes_3 n at) 3 (col 1 0 ∷ []) []
-    (overlay db []) rows.lines found was.lines.is (did.2.answer Null) in
-    let ids : IsPermutation
-    (map (λ x. pos ((λ (l : LineRow). l.id) x)) (filter (is_line_from n at) rows.lines)) (ids_of found) =
-    subst (λ k. IsPermutation k (ids_of found)) (map_map _ _ (filter (is_line_from n at) rows.lines))
-    (IsPermutation-map (λ r. id_in (rowid r)) _ _ all) in
-    record {
-      meta = same 0 (omega arith) (omega arith) ∙ was.meta;
-      batches = keeps_on _ _ _ (same 1 (omega arith) (omega arith)) was.batches;
-      records = keeps_on _ _ _ (same 2 (omega arith) (omega arith)) was.records;
-      lines = keeps_on _ _ (now 3) applied.rows
-          (keeps_less line_values (λ (l : LineRow). l.id) (λ _. refl) (is_line_from n at) rows.lines (db 3)
-          (ids_of found) ids was.lines);
-      receipts = keeps_on _ _ _ (same 4 (omega arith) (omega arith)) was.receipts;
-      slips = keeps_on _ _ _ (same 5 (omega arith) (omega arith)) was.slips;
-      slip_lines = keeps_on _ _ _ (same 6 (omega arith) (omega arith)) was.slip_lines;
-      later = later_on b rows db now edit applied (omega arith) was.later;
+      own = own_on b rows db now edit applied (omega arith) (omega arith) fits was.own;
     })

@@ -73,7 +73,7 @@ followed sql params old new count f means typed ran rows was =
         schema = subst (λ b. new.now.schema ≡ archive_schema b) has did.schema;
         good = record {
           sound = subst (λ b. IsSound (archive_schema b) new.now.trees) has did.sound;
-          holds = did.holds rows was.good.holds;
+          holds = did.holds rows refl was.good.holds;
           typed = typed rows was.good.typed;
         };
       },
@@ -166,6 +166,7 @@ begins society old new count text ran was =
       batches = tt;
       records = tt;
       lines = tt;
+      packs = tt;
       receipts = tt;
       slips = tt;
       slip_lines = tt;

@@ -1,12 +1,35 @@
 -- What a CREATE makes, under any schema.
-use Rattle.std.proofs.Common.{◌≡◌, ℕ, List, [], Bool, true, false, Ok, refl, sym, ap, subst, ◌∙◌, None, MatchBool}
+use Rattle.std.proofs.Common.{
+  ◌≡◌,
+  ℕ,
+  List,
+  [],
+  Bool,
+  true,
+  false,
+  Ok,
+  refl,
+  sym,
+  ap,
+  subst,
+  ◌∙◌,
+  Option,
+  None,
+  MatchBool,
+  if◌then◌else◌,
+}
 use Rattle.sqlite.specs.Table.{Table}
 use Rattle.sqlite.specs.Schema.{Schema}
-use Rattle.sqlite.specs.Command.TheVariants.{CreateTable, CreateIndex}
+use Rattle.sqlite.specs.Command.TheVariants.{CreateTable, CreateIndex, DropTable}
 use Rattle.sqlite.specs.Change.{created, next_tree, KeepsRows}
-use Rattle.sqlite_catalog.specs.Change.{indexed}
+use Rattle.sqlite_catalog.specs.Change.{indexed, without_table}
 use Rattle.sqlite_schema.specs.declared.schema.Index.{Index}
-use Rattle.sqlite.specs.Does.{Tally, lacks_sequence, Does}
+use Rattle.sqlite.specs.Does.{Tally, UncountsIn, lacks_sequence, is_acted_on, Does}
+use Rattle.sqlite.specs.Does.{Drops as Dropping}
+use Rattle.sqlite.specs.Rows.{Task, sequence}
+use Rattle.sqlite.specs.declared.run.Mode.{Mode}
+use Rattle.sqlite.specs.Order.{Row}
+use Rattle.sqlite.specs.Tree.{Trees}
 use Rattle.sqlite.specs.Effect.{Database}
 use Rattle.sqlite.specs.Listing.{understood}
 use Rattle.sqlite.specs.State.{State, Writes, Executes, mode_of}
@@ -66,7 +89,7 @@ use Rattle.store_tables.proofs.Texts.{
   line_by_text_is,
 }
 use Rattle.store_tables.proofs.Writing.{went, same_value}
-use Rattle.store_tables.specs.Creating.{IsCreate, IsCreateIndex}
+use Rattle.store_tables.specs.Creating.{IsCreate, IsCreateIndex, IsDrop}
 
 pub record Makes (old new : State) (schema after : Schema) : Type 0 where
   pub schema_is : new.now.schema ≡ after
@@ -132,6 +155,52 @@ creates_index schema text at table index old new count is has h =
       rows = subst (λ (d : Database). KeepsRows schema.tables old.now.trees d.trees) (sym now) made.rows;
       sound = subst (λ s. IsSound s new.now.trees) schema_is w.sound;
     }
+
+-- ---- a DROP
+pub record Drops (old new : State) (schema : Schema) (table : Table) : Type 0 where
+  pub schema_is : new.now.schema ≡ without_table schema table.tree
+  pub rows : KeepsRows (without_table schema table.tree).tables old.now.trees new.now.trees
+  pub sound : IsSound (without_table schema table.tree) new.now.trees
+
+none_counts : (b : Bool) (o : Option Table) (P : Option Table → Type 0) → b ≡ false → P (if b then o else None) → P None
+none_counts true o P e h = absurd cc
+none_counts false o P e h = h
+
+-- where nothing is acted on, and nothing counts, only the table goes
+only_table : (limit : Option ℕ) (mode : Mode) (params : Row) (schema : Schema) (table : Table) (db : Trees)
+    (tally : Tally) (after : Database) → is_acted_on schema mode.keys table ≡ false → table.is_counted ≡ false
+    → Dropping (record { limit = limit; keys = mode.keys; schema = schema; table = table; params = params }) mode db
+    (Ok (tally, after))
+    → (after.schema ≡ without_table schema table.tree)
+    × KeepsRows (without_table schema table.tree).tables db after.trees
+only_table limit mode params schema table db tally after alone uncounted h =
+    let task : Task = record { limit = limit; keys = mode.keys; schema = schema; table = table; params = params } in
+    let emptied = went h in
+    let first : emptied.0 ≡ db = same_value (no_match _ _ _ alone emptied.1) in
+    let counted = went emptied.2 in
+    let second : counted.0 ≡ emptied.0 = same_value (none_counts table.is_counted (sequence schema)
+    (λ o. UncountsIn task emptied.0 o (Ok counted.0)) uncounted counted.1) in
+    let tested = went counted.2 in
+    let left = went tested.2 in
+    let last : after ≡ left.0 = ap (λ (p : Tally × Database). p.1) (same_value left.2) in (
+      ap (λ (d : Database). d.schema) last ∙ left.1.0,
+      subst (λ t. KeepsRows (without_table schema table.tree).tables t after.trees) (second ∙ first)
+          (subst (λ (d : Database). KeepsRows (without_table schema table.tree).tables counted.0 d.trees) (sym last)
+          left.1.1),
+    )
+
+pub drops : (schema : Schema) (text : List ℕ) (at : ℕ) (table : Table) (old new : State) (count : ℕ)
+    → IsDrop schema text at table → old.now.schema ≡ schema → Executes text [] old new (Ok count)
+    → Drops old new schema table
+drops schema text at table old new count is has h =
+    let w = subst (λ t. Writes old new None (DropTable at) t [] count) is.whole
+    (runs_as text [] old new schema has (DropTable at) is.command is.plain count h) in
+    let here = rw is.listed at
+    (subst (λ s. Does old.step_limit (mode_of old) [] (record old.now { schema = s }) text None (DropTable at)
+    (Ok (w.tally, new.now))) has w.changed) in
+    let did = only_table old.step_limit (mode_of old) [] schema table old.now.trees w.tally new.now is.stands_alone
+    is.counts here in
+    record { schema_is = did.0; rows = did.1; sound = subst (λ s. IsSound s new.now.trees) did.0 w.sound }
 
 pub makes_meta : IsCreate no_schema create_meta (record meta { tree = 0 })
 unfolding understood everything

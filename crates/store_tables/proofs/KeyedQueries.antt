@@ -9,15 +9,12 @@ use Rattle.std.proofs.Common.{
   pos,
   Bool,
   true,
-  false,
   List,
   [],
   ◌∷◌,
   map,
   filter,
-  Option,
   Some,
-  None,
   refl,
   ap,
   ap₂,
@@ -45,12 +42,10 @@ use Rattle.sqlite.specs.Program.{overlay}
 use Rattle.sqlite.specs.State.{State, Shown}
 use Rattle.sqlite.proofs.Callers.{reads_as}
 use Rattle.sqlite_value.proofs.OrderLemmas.{value_cmp-Text}
-use Rattle.store_tables.specs.Keyed.{is_number, is_text}
 use Rattle.store_tables.specs.Rows.{
   Rows,
   BatchRow,
   RecordRow,
-  LineRow,
   ReceiptRow,
   SlipRow,
   SlipLineRow,
@@ -58,13 +53,9 @@ use Rattle.store_tables.specs.Rows.{
   Keeps,
   batch_values,
   record_values,
-  line_values,
-  line_fields,
   receipt_values,
   slip_values,
   slip_line_values,
-  number_or_null,
-  words_or_null,
 }
 use Rattle.store_tables.specs.Schema.{archive_schema}
 use Rattle.store_tables.specs.Shown.{shown_batch, shown_record, shown_receipt, shown_slip, shown_slip_line}
@@ -83,14 +74,6 @@ use Rattle.store_tables.proofs.KeyedTexts.{
   record_at_is,
   record_at_plain,
   record_at_unlisted,
-  lines_at,
-  lines_at_is,
-  lines_at_plain,
-  lines_at_unlisted,
-  lines_naming,
-  lines_naming_is,
-  lines_naming_plain,
-  lines_naming_unlisted,
   receipts_at,
   receipts_at_is,
   receipts_at_plain,
@@ -103,15 +86,6 @@ use Rattle.store_tables.proofs.KeyedTexts.{
   slip_lines_at_is,
   slip_lines_at_plain,
   slip_lines_at_unlisted,
-  lines_saying,
-  lines_saying_is,
-  lines_saying_plain,
-  lines_saying_unlisted,
-  lines_saying_of,
-  lines_saying_of_is,
-  lines_saying_of_plain,
-  lines_saying_of_unlisted,
-  with_both,
 }
 
 -- the rows of a table that pass the tests, in the order of its key
@@ -162,11 +136,6 @@ record_passes : (n : ℕ) (x : RecordRow) → list_all (holds ((Int (pos n) ∷ 
 unfolding binary
 record_passes n x = ap (λ b. is_true (from_truth (Some b)) && true) (same_int x.no n) ∙ truth_of (x.no == n)
 
-line_passes : (n : ℕ) (x : LineRow) → list_all (holds ((Int (pos n) ∷ []) ∷ line_values x ∷ []))
-    (with_key 2) ≡ (x.no == n)
-unfolding binary
-line_passes n x = ap (λ b. is_true (from_truth (Some b)) && true) (same_int x.no n) ∙ truth_of (x.no == n)
-
 receipt_passes : (token : List ℕ) (x : ReceiptRow) → list_all (holds ((Text token ∷ []) ∷ receipt_values x ∷ []))
     (with_key 2) ≡ bytes_eq x.token token
 unfolding binary
@@ -182,59 +151,6 @@ slip_line_passes : (n : ℕ) (x : SlipLineRow) → list_all (holds ((Int (pos n)
     (with_key 2) ≡ (x.slip == n)
 unfolding binary
 slip_line_passes n x = ap (λ b. is_true (from_truth (Some b)) && true) (same_int x.slip n) ∙ truth_of (x.slip == n)
-
--- a line without a number passes no test of numbers, since nothing is equal to NULL
-naming_passes : (n : ℕ) (x : LineRow) → list_all (holds ((Int (pos n) ∷ []) ∷ line_values x ∷ [])) (with_key 7)
-    ≡ is_number n x.line.1.target
-unfolding binary
-naming_passes n x = go x.line.1.target
-  where
-    go : (o : Option ℕ)
-        → list_all (holds ((Int (pos n) ∷ [])
-        ∷ (Int (pos x.id) ∷ Null ∷ Int (pos x.no) ∷ Int (pos x.at) ∷ Int (pos x.line.0) ∷ Text x.line.1.tag
-        ∷ words_or_null x.line.1.text ∷ number_or_null o ∷ []) ∷ [])) (with_key 7)
-        ≡ is_number n o
-    go None = refl
-    go (Some m) = ap (λ b. is_true (from_truth (Some b)) && true) (same_int m n) ∙ truth_of (m == n)
-
--- nor does a line without a text pass a test of texts
-saying_passes : (t : List ℕ) (more : Row) (x : LineRow) → list_all (holds ((Text t ∷ more) ∷ line_values x ∷ []))
-    (with_key 6) ≡ is_text t x.line.1.text
-unfolding binary
-saying_passes t more x = go x.line.1.text
-  where
-    go : (o : Option (List ℕ))
-        → list_all (holds ((Text t ∷ more) ∷ (Int (pos x.id) ∷ Null ∷ Int (pos x.no) ∷ Int (pos x.at) ∷ Int
-        (pos x.line.0) ∷ Text x.line.1.tag ∷ words_or_null o ∷ number_or_null x.line.1.target ∷ []) ∷ []))
-        (with_key 6)
-        ≡ is_text t o
-    go None = refl
-    go (Some s) = ap (λ b. is_true (from_truth (Some b)) && true) (same_text s t) ∙ truth_of (bytes_eq s t)
-
--- both tests, of a text and of a number
-both_pass : (t : List ℕ) (n : ℕ) (x : LineRow) → list_all (holds ((Text t ∷ Int (pos n) ∷ []) ∷ line_values x ∷ []))
-    with_both ≡ (is_text t x.line.1.text && is_number n x.line.1.target)
-unfolding binary
-both_pass t n x = go x.line.1.text x.line.1.target
-  where
-    go : (o : Option (List ℕ)) (q : Option ℕ)
-        → list_all (holds ((Text t ∷ Int (pos n) ∷ [])
-        ∷ (Int (pos x.id) ∷ Null ∷ Int (pos x.no) ∷ Int (pos x.at) ∷ Int (pos x.line.0) ∷ Text x.line.1.tag
-        ∷ words_or_null o ∷ number_or_null q ∷ []) ∷ [])) with_both
-        ≡ (is_text t o && is_number n q)
-    go None q = refl
-    go (Some s) None = ap (λ b. is_true (from_truth (Some b)) && false) (same_text s t) ∙ never (bytes_eq s t)
-      where
-        never : (b : Bool) → (is_true (from_truth (Some b)) && false) ≡ (b && false)
-        never true = refl
-        never false = refl
-    go (Some s) (Some m) = ap₂ (λ a b. is_true (from_truth (Some a)) && (is_true (from_truth (Some b)) && true))
-        (same_text s t) (same_int m n) ∙ two (bytes_eq s t) (m == n)
-      where
-        two : (a b : Bool) → (is_true (from_truth (Some a)) && (is_true (from_truth (Some b)) && true)) ≡ (a && b)
-        two true true = refl
-        two true false = refl
-        two false b = refl
 
 -- ---- the queries
 
@@ -261,31 +177,6 @@ reads_record old new n read rows has was h =
     found_in_order record_values (λ (x : RecordRow). x.no) (λ _. refl) (Int (pos n) ∷ []) (with_key 0)
     (λ (x : RecordRow). x.no == n) (record_passes n) 2 (col 1 0 ∷ col 1 3 ∷ []) (overlay old.now.trees [])
     rows.records read was.records (reads.answer Null)
-
-pub reads_lines_at : (old new : State) (n : ℕ) (read : List Row) (rows : Rows)
-    → old.now.schema ≡ archive_schema rows.has_spans
-    → Holds rows old.now.trees → Shown lines_at (Int (pos n) ∷ []) old new read
-    → read ≡ map (λ (l : LineRow). line_fields l.line) (filter (λ (x : LineRow). x.no == n) rows.lines)
-reads_lines_at old new n read rows has was h =
-    let reads = reads_as lines_at (Int (pos n) ∷ []) old new (archive_schema rows.has_spans) has _
-    (lines_at_is rows.has_spans) (lines_at_plain rows.has_spans)
-    (lines_at_unlisted rows.has_spans) read h in
-    found_in_order line_values (λ (x : LineRow). x.id) (λ _. refl) (Int (pos n) ∷ []) (with_key 2)
-    (λ (x : LineRow). x.no == n) (line_passes n) 3 (col 1 4 ∷ col 1 5 ∷ col 1 6 ∷ col 1 7 ∷ [])
-    (overlay old.now.trees []) rows.lines read was.lines (reads.answer Null)
-
-pub reads_naming : (old new : State) (n : ℕ) (read : List Row) (rows : Rows)
-    → old.now.schema ≡ archive_schema rows.has_spans
-    → Holds rows old.now.trees → Shown lines_naming (Int (pos n) ∷ []) old new read
-    → read ≡ map (λ (l : LineRow). Int (pos l.no) ∷ [])
-    (filter (λ (x : LineRow). is_number n x.line.1.target) rows.lines)
-reads_naming old new n read rows has was h =
-    let reads = reads_as lines_naming (Int (pos n) ∷ []) old new (archive_schema rows.has_spans) has _
-    (lines_naming_is rows.has_spans) (lines_naming_plain rows.has_spans)
-    (lines_naming_unlisted rows.has_spans) read h in
-    found_in_order line_values (λ (x : LineRow). x.id) (λ _. refl) (Int (pos n) ∷ []) (with_key 7)
-    (λ (x : LineRow). is_number n x.line.1.target) (naming_passes n) 3 (col 1 2 ∷ [])
-    (overlay old.now.trees []) rows.lines read was.lines (reads.answer Null)
 
 pub reads_receipts_at : (old new : State) (token : List ℕ) (read : List Row) (rows : Rows)
     → old.now.schema ≡ archive_schema rows.has_spans → Holds rows old.now.trees
@@ -324,29 +215,3 @@ reads_slip_lines_at old new n read rows has was h =
     (λ (x : SlipLineRow). x.slip == n) (slip_line_passes n) 6
     (col 1 2 ∷ col 1 3 ∷ col 1 4 ∷ col 1 6 ∷ col 1 7 ∷ col 1 8 ∷ col 1 9 ∷ []) (overlay old.now.trees [])
     rows.slip_lines read was.slip_lines (reads.answer Null)
-
-pub reads_saying : (old new : State) (text : List ℕ) (read : List Row) (rows : Rows)
-    → old.now.schema ≡ archive_schema rows.has_spans
-    → Holds rows old.now.trees → Shown lines_saying (Text text ∷ []) old new read
-    → read ≡ map (λ (l : LineRow). Int (pos l.no) ∷ [])
-    (filter (λ (x : LineRow). is_text text x.line.1.text) rows.lines)
-reads_saying old new text read rows has was h =
-    let reads = reads_as lines_saying (Text text ∷ []) old new (archive_schema rows.has_spans) has _
-    (lines_saying_is rows.has_spans) (lines_saying_plain rows.has_spans)
-    (lines_saying_unlisted rows.has_spans) read h in
-    found_in_order line_values (λ (x : LineRow). x.id) (λ _. refl) (Text text ∷ []) (with_key 6)
-    (λ (x : LineRow). is_text text x.line.1.text) (saying_passes text []) 3 (col 1 2 ∷ [])
-    (overlay old.now.trees []) rows.lines read was.lines (reads.answer Null)
-
-pub reads_saying_of : (old new : State) (text : List ℕ) (n : ℕ) (read : List Row) (rows : Rows)
-    → old.now.schema ≡ archive_schema rows.has_spans → Holds rows old.now.trees → Shown lines_saying_of
-    (Text text ∷ Int (pos n) ∷ []) old new read
-    → read ≡ map (λ (l : LineRow). Int (pos l.no) ∷ [])
-    (filter (λ (x : LineRow). is_text text x.line.1.text && is_number n x.line.1.target) rows.lines)
-reads_saying_of old new text n read rows has was h =
-    let reads = reads_as lines_saying_of (Text text ∷ Int (pos n) ∷ []) old new (archive_schema rows.has_spans) has _
-    (lines_saying_of_is rows.has_spans)
-    (lines_saying_of_plain rows.has_spans) (lines_saying_of_unlisted rows.has_spans) read h in
-    found_in_order line_values (λ (x : LineRow). x.id) (λ _. refl) (Text text ∷ Int (pos n) ∷ []) with_both
-    (λ (x : LineRow). is_text text x.line.1.text && is_number n x.line.1.target) (both_pass text n) 3 (col 1 2 ∷ [])
-    (overlay old.now.trees []) rows.lines read was.lines (reads.answer Null)

@@ -5,9 +5,8 @@ use Rattle.std.proofs.Common.{
   ◌<◌,
   ◌≢◌,
   List,
-  Bool,
+  [],
   true,
-  false,
   Ok,
   sym,
   ap,
@@ -24,7 +23,7 @@ use Rattle.sqlite.specs.State.{State, Executes, ExecutesInside}
 use Rattle.store_tables.specs.Calls.{FollowsDated}
 use Rattle.store_tables.specs.Reading.{AreTyped}
 use Rattle.store_tables.specs.Schema.{archive_schema}
-use Rattle.store_tables.specs.Rows.{Rows, SpanRow, LinkRow, SoughtRow, Holds, HoldsLater, KeepsLater}
+use Rattle.store_tables.specs.Rows.{Rows, PackRow, SpanRow, LinkRow, SoughtRow, Holds, HoldsOwn, KeepsLater}
 use Rattle.store_tables.proofs.Coded.{keeps_on}
 use Rattle.store_tables.proofs.Statements.{no_late_index, others_of}
 
@@ -58,40 +57,40 @@ followed_dated sql params old new count f means typed ran rows dated was =
     )
 
 -- ---- these tables, where they are
-pub of_second : (b : Bool) (spans : List SpanRow) (links : List LinkRow) (soughts : List SoughtRow) (t : Trees)
-    → b ≡ true → HoldsLater b spans links soughts t → KeepsLater spans links soughts t
-of_second true spans links soughts t e h = h
-of_second false spans links soughts t e h = absurd cc
+pub in_second : (rows : Rows) (packs : List PackRow) (spans : List SpanRow) (links : List LinkRow)
+    (soughts : List SoughtRow) (t : Trees) → rows.has_spans ≡ true → rows.lines ≡ []
+    → KeepsLater packs spans links soughts t → HoldsOwn rows.has_spans rows.lines packs spans links soughts t
+in_second rows packs spans links soughts t dated none kept =
+    subst (λ b. HoldsOwn b rows.lines packs spans links soughts t) (sym dated) (none, kept)
 
-in_second : (b : Bool) (spans : List SpanRow) (links : List LinkRow) (soughts : List SoughtRow) (t : Trees)
-    → b ≡ true → KeepsLater spans links soughts t → HoldsLater b spans links soughts t
-in_second true spans links soughts t e h = h
-in_second false spans links soughts t e h = absurd cc
+-- what is kept of them in an archive of the second schema, which has no lines in rows of their own
+pub own_of : (rows : Rows) (t : Trees) → rows.has_spans ≡ true → Holds rows t
+    → (rows.lines ≡ []) × KeepsLater rows.packs rows.spans rows.links rows.soughts t
+own_of rows t dated was =
+    subst (λ b. HoldsOwn b rows.lines rows.packs rows.spans rows.links rows.soughts t) dated was.own
 
--- what is kept of them in an archive of the second schema
 pub kept_of : (rows : Rows) (t : Trees) → rows.has_spans ≡ true → Holds rows t
-    → KeepsLater rows.spans rows.links rows.soughts t
-kept_of rows t dated was = of_second rows.has_spans rows.spans rows.links rows.soughts t dated was.later
+    → KeepsLater rows.packs rows.spans rows.links rows.soughts t
+kept_of rows t dated was = (own_of rows t dated was).1
 
--- a change of one of them leaves the tables of the first schema
-pub beside : (rows : Rows) (spans : List SpanRow) (links : List LinkRow) (soughts : List SoughtRow) (old new : Trees)
-    (edit : Edit) → Applies (archive_schema true) Enforced old edit new → 11 < edit.table.tree
-    → rows.has_spans ≡ true → KeepsLater spans links soughts new → Holds rows old
-    → Holds (record rows { spans = spans; links = links; soughts = soughts }) new
-beside rows spans links soughts old new edit a high dated kept was =
+-- a change of one of them leaves the tables that both schemas have
+pub beside : (rows : Rows) (packs : List PackRow) (spans : List SpanRow) (links : List LinkRow)
+    (soughts : List SoughtRow) (old new : Trees) (edit : Edit) → Applies (archive_schema true) Enforced old edit new
+    → 10 < edit.table.tree → rows.has_spans ≡ true → KeepsLater packs spans links soughts new → Holds rows old
+    → Holds (record rows { packs = packs; spans = spans; links = links; soughts = soughts }) new
+beside rows packs spans links soughts old new edit a high dated kept was =
     let same = others_of true old new edit a in
     record {
       meta = same 0 (omega arith) (omega (arith, high)) ∙ was.meta;
       batches = keeps_on _ _ _ (same 1 (omega arith) (omega (arith, high))) was.batches;
       records = keeps_on _ _ _ (same 2 (omega arith) (omega (arith, high))) was.records;
-      lines = keeps_on _ _ _ (same 3 (omega arith) (omega (arith, high))) was.lines;
       receipts = keeps_on _ _ _ (same 4 (omega arith) (omega (arith, high))) was.receipts;
       slips = keeps_on _ _ _ (same 5 (omega arith) (omega (arith, high))) was.slips;
       slip_lines = keeps_on _ _ _ (same 6 (omega arith) (omega (arith, high))) was.slip_lines;
-      later = in_second rows.has_spans spans links soughts new dated kept;
+      own = in_second rows packs spans links soughts new dated (own_of rows old dated was).0 kept;
     }
 
 -- each of these tables but the one that is changed is as it was
 pub late_same : (old new : Trees) (edit : Edit) → Applies (archive_schema true) Enforced old edit new → (t : ℕ)
-    → 11 < t → t < 16 → t ≢ edit.table.tree → new t ≡ old t
-late_same old new edit a t high low off = a.others t off (no_late_index true t high low)
+    → 10 < t → t < 16 → t ≢ edit.table.tree → new t ≡ old t
+late_same old new edit a t high low off = a.others t off (no_late_index t high low)

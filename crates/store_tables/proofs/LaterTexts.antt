@@ -1,10 +1,28 @@
 -- What makes the tables that the second schema has beside the first one, each by its text.
-use Rattle.std.proofs.Common.{◌≡◌, List, ℕ, [], ◌∷◌, codes, Ok, refl}
+use Rattle.std.proofs.Common.{◌≡◌, List, ℕ, [], ◌∷◌, false, codes, Ok, refl}
 use Rattle.sqlite.specs.Compile.{index_defined_by, table_defined_by}
+use Rattle.sqlite_schema.specs.Names.{same_name}
 use Rattle.sqlite_tied.specs.Compute.{everything}
 use Rattle.sqlite.specs.Listing.{understood}
-use Rattle.store_tables.specs.Creating.{IsCreate, IsCreateIndex}
-use Rattle.store_tables.specs.Schema.{first_and, links, pasts, sought_by_text, soughts, spans}
+use Rattle.store_tables.specs.Creating.{IsCreate, IsCreateIndex, IsDrop}
+use Rattle.store_tables.specs.Schema.{
+  archive_schema,
+  both_and,
+  lines,
+  links,
+  packs,
+  pasts,
+  sought_by_text,
+  soughts,
+  spans,
+}
+
+abbrev pub drop_lines : List ℕ
+drop_lines = codes "DROP TABLE line"
+
+abbrev pub create_packs : List ℕ
+create_packs = codes
+    "CREATE TABLE line (no INTEGER PRIMARY KEY REFERENCES record (no) ON DELETE RESTRICT, pos INTEGER NOT NULL, depth INTEGER NOT NULL, tag TEXT NOT NULL, text TEXT, dst INTEGER) STRICT"
 
 abbrev pub create_spans : List ℕ
 create_spans = codes
@@ -23,6 +41,10 @@ create_pasts = codes
 
 abbrev pub create_sought_by_text : List ℕ
 create_sought_by_text = codes "CREATE INDEX sought_by_text ON sought (text, dst)"
+
+packs_is : (table_defined_by create_packs ≡ Ok (record packs { tree = 0 }))
+unfolding understood everything
+packs_is = refl
 
 spans_is : (table_defined_by create_spans ≡ Ok (record spans { tree = 0 }))
 unfolding understood everything
@@ -44,23 +66,39 @@ sought_by_text_is : (index_defined_by soughts create_sought_by_text ≡ Ok (reco
 unfolding understood everything
 sought_by_text_is = refl
 
-pub makes_spans : IsCreate (first_and []) create_spans (record spans { tree = 0 })
+pub drops_lines : IsDrop (archive_schema false) drop_lines 3 lines
+unfolding understood everything same_name
+drops_lines = record {
+  command = refl;
+  whole = refl;
+  plain = (refl, refl);
+  listed = refl;
+  stands_alone = refl;
+  counts = refl;
+}
+
+pub makes_packs : IsCreate (both_and []) create_packs (record packs { tree = 0 })
+unfolding understood everything
+makes_packs = record { command = refl; whole = refl; plain = (refl, refl); defined = packs_is; counts = refl }
+
+pub makes_spans : IsCreate (both_and (packs ∷ [])) create_spans (record spans { tree = 0 })
 unfolding understood everything
 makes_spans = record { command = refl; whole = refl; plain = (refl, refl); defined = spans_is; counts = refl }
 
-pub makes_links : IsCreate (first_and (spans ∷ [])) create_links (record links { tree = 0 })
+pub makes_links : IsCreate (both_and (packs ∷ spans ∷ [])) create_links (record links { tree = 0 })
 unfolding understood everything
 makes_links = record { command = refl; whole = refl; plain = (refl, refl); defined = links_is; counts = refl }
 
-pub makes_soughts : IsCreate (first_and (spans ∷ links ∷ [])) create_soughts (record soughts { tree = 0 })
+pub makes_soughts : IsCreate (both_and (packs ∷ spans ∷ links ∷ [])) create_soughts (record soughts { tree = 0 })
 unfolding understood everything
 makes_soughts = record { command = refl; whole = refl; plain = (refl, refl); defined = soughts_is; counts = refl }
 
-pub makes_pasts : IsCreate (first_and (spans ∷ links ∷ soughts ∷ [])) create_pasts (record pasts { tree = 0 })
+pub makes_pasts : IsCreate (both_and (packs ∷ spans ∷ links ∷ soughts ∷ [])) create_pasts (record pasts { tree = 0 })
 unfolding understood everything
 makes_pasts = record { command = refl; whole = refl; plain = (refl, refl); defined = pasts_is; counts = refl }
 
-pub makes_sought_by_text : IsCreateIndex (first_and (spans ∷ links ∷ soughts ∷ pasts ∷ [])) create_sought_by_text 9
+pub makes_sought_by_text : IsCreateIndex
+    (both_and (packs ∷ spans ∷ links ∷ soughts ∷ pasts ∷ [])) create_sought_by_text 9
     soughts (record sought_by_text { tree = 0 })
 unfolding understood everything
 makes_sought_by_text = record {

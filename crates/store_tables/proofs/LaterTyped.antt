@@ -1,16 +1,22 @@
--- What each statement on links and on what is looked for makes of rows whose values are of their types has such values.
+-- What each statement on links, on all lines of a record and on what is looked for makes of rows whose values are of
+-- their types has such values.
 use Rattle.std.proofs.Common.{ℕ, List, [], ◌∷◌, Option, IfSome, Ordering, Less, Equal, Greater}
 use Rattle.std.specs.List.{AllByRecursion}
 use Rattle.std.specs.Ordering.{match_ordering}
 use Rattle.record_text.specs.Text.{IsText}
-use Rattle.store_tables.specs.Reading.{AreTyped, IsTypedLink, IsU32}
+use Rattle.std.specs.Str.{IsUtf8}
+use Rattle.stored_lines.specs.Line.{Label}
+use Rattle.packed_lines.specs.Packed.{packed}
+use Rattle.store_tables.specs.Reading.{AreTyped, HaveTop, IsTypedLine, IsTypedLink, IsU32}
 use Rattle.store_tables.specs.Rows.{
   Rows,
   LinkRow,
+  PackRow,
   SoughtRow,
   pair_cmp,
   put_pair,
   with_link,
+  with_pack,
   with_sought,
   without_link,
   without_sought,
@@ -38,6 +44,7 @@ typed_link target n first low rows t = record {
   batches = t.batches;
   records = t.records;
   lines = t.lines;
+  packs = t.packs;
   receipts = t.receipts;
   slips = t.slips;
   slip_lines = t.slip_lines;
@@ -54,6 +61,7 @@ typed_less_link target n rows t = record {
   batches = t.batches;
   records = t.records;
   lines = t.lines;
+  packs = t.packs;
   receipts = t.receipts;
   slips = t.slips;
   slip_lines = t.slip_lines;
@@ -71,6 +79,7 @@ typed_sought n text target low words other rows t = record {
   batches = t.batches;
   records = t.records;
   lines = t.lines;
+  packs = t.packs;
   receipts = t.receipts;
   slips = t.slips;
   slip_lines = t.slip_lines;
@@ -87,10 +96,30 @@ typed_less_sought n rows t = record {
   batches = t.batches;
   records = t.records;
   lines = t.lines;
+  packs = t.packs;
   receipts = t.receipts;
   slips = t.slips;
   slip_lines = t.slip_lines;
   spans = t.spans;
   links = t.links;
   soughts = kept_by _ _ rows.soughts t.soughts;
+}
+
+pub typed_pack : (n : ℕ) (ls : List (ℕ × Label)) → IsU32 n → HaveTop ls → AllByRecursion IsTypedLine ls
+    → IsUtf8 (packed ls) → (rows : Rows) → AreTyped rows → AreTyped (with_pack n ls rows)
+typed_pack n ls low top lines text rows t = record {
+  version = t.version;
+  dated = t.dated;
+  society = t.society;
+  batches = t.batches;
+  records = t.records;
+  lines = t.lines;
+  packs = put_all _ (λ (p : PackRow). p.no) _ rows.packs
+      (record { number = low; top = top; lines = lines; text = text }) t.packs;
+  receipts = t.receipts;
+  slips = t.slips;
+  slip_lines = t.slip_lines;
+  spans = t.spans;
+  links = t.links;
+  soughts = t.soughts;
 }

@@ -15,11 +15,15 @@ mod LaterQueries
 mod LaterStatements
 mod LaterTexts
 mod LaterTyped
+mod LineStatements
 mod LinkQueries
 mod LinkStatements
 mod LinkTexts
 pub mod Loops
 mod Owning
+pub mod Packing
+mod PackQueries
+pub mod PackTexts
 pub mod Pairing
 pub mod Preparing
 pub mod Queries

@@ -1,5 +1,5 @@
 -- The foreign keys of good tables, said of the rows that they hold.
-use Rattle.std.proofs.Common.{◌≡◌, ◌==◌, ◌&&◌, Bool, true, false, List, [], ◌∷◌, map, Some, sym, ap, subst, ◌∙◌}
+use Rattle.std.proofs.Common.{◌≡◌, ℕ, ◌==◌, ◌&&◌, Bool, true, false, List, [], ◌∷◌, map, Some, sym, ap, subst, ◌∙◌}
 use Rattle.std.specs.List.{AllByRecursion, list_any}
 use Rattle.sqlite.specs.Order.{Row}
 use Rattle.sqlite.specs.Ops.{is_true, from_truth, binary}
@@ -16,17 +16,19 @@ use Rattle.store_tables.specs.Rows.{
   BatchRow,
   RecordRow,
   LineRow,
+  PackRow,
   SpanRow,
   LinkRow,
   SoughtRow,
-  HoldsLater,
+  HoldsOwn,
   batch_values,
   record_values,
   line_values,
+  pack_values,
   sought_values,
   span_values,
 }
-use Rattle.store_tables.specs.Schema.{archive_schema, later_tables, lines, records, soughts, spans}
+use Rattle.store_tables.specs.Schema.{archive_schema, lines, more_tables, packs, records, soughts, spans}
 use Rattle.store_tables.proofs.Coded.{same_int}
 use Rattle.store_tables.proofs.Statements.{truth_of}
 use Rattle.list_laws.proofs.Lists.{any_mapped, any_alike}
@@ -59,11 +61,11 @@ record_refers : (b : Bool) (db : Trees) (r : RecordRow)
 unfolding same_name joined
 record_refers b db r h = and_first _ _ h
 
-line_refers : (b : Bool) (db : Trees) (l : LineRow)
-    → passes ForeignKey (archive_schema b) db lines (line_values l) ≡ true
+line_refers : (db : Trees) (l : LineRow)
+    → passes ForeignKey (archive_schema false) db lines (line_values l) ≡ true
     → list_any (λ parent. agree plain (0 ∷ []) parent (2 ∷ []) (line_values l)) (db 2) ≡ true
 unfolding same_name joined
-line_refers b db l h = and_first _ _ h
+line_refers db l h = and_first _ _ h
 
 span_refers : (db : Trees) (s : SpanRow) → passes ForeignKey (archive_schema true) db spans (span_values s) ≡ true
     → list_any (λ parent. agree plain (0 ∷ []) parent (0 ∷ []) (span_values s)) (db 2) ≡ true
@@ -79,14 +81,14 @@ batch_there b db bs is r h =
     ∙ any_alike (λ b. test (batch_values b)) (λ (b : BatchRow). b.no == r.batch) (agrees_batch r) bs)
     ∙ record_refers b db r h
 
-record_there : (b : Bool) (db : Trees) (rs : List RecordRow) → db 2 ≡ map record_values rs → (l : LineRow)
-    → passes ForeignKey (archive_schema b) db lines (line_values l) ≡ true
+record_there : (db : Trees) (rs : List RecordRow) → db 2 ≡ map record_values rs → (l : LineRow)
+    → passes ForeignKey (archive_schema false) db lines (line_values l) ≡ true
     → list_any (λ (r : RecordRow). r.no == l.no) rs ≡ true
-record_there b db rs is l h =
+record_there db rs is l h =
     let test = (λ (parent : Row). agree plain (0 ∷ []) parent (2 ∷ []) (line_values l)) in
     sym (ap (list_any test) is ∙ any_mapped test record_values rs
     ∙ any_alike (λ r. test (record_values r)) (λ (r : RecordRow). r.no == l.no) (agrees_record l) rs)
-    ∙ line_refers b db l h
+    ∙ line_refers db l h
 
 spanned_there : (db : Trees) (rs : List RecordRow) → db 2 ≡ map record_values rs → (s : SpanRow)
     → passes ForeignKey (archive_schema true) db spans (span_values s) ≡ true
@@ -117,52 +119,82 @@ sought_there db rs is s h =
     ∙ any_alike (λ r. test (record_values r)) (λ (r : RecordRow). r.no == s.no) (agrees_sought s) rs)
     ∙ sought_refers db s h
 
-abbrev AreLaterKept : Bool → Trees → Type 0
-AreLaterKept b db = AllByRecursion (λ (t : Table). AllByRecursion
-    (λ row. passes ForeignKey (archive_schema b) db t row ≡ true) (db t.tree)) (later_tables b)
+agrees_pack : (p : PackRow) (r : RecordRow) → agree plain (0 ∷ []) (record_values r) (0 ∷ []) (pack_values p)
+    ≡ (r.no == p.no)
+unfolding binary first_key
+agrees_pack p r = ap (λ t. is_true (from_truth (Some t)) && true) (same_int r.no p.no) ∙ truth_of (r.no == p.no)
 
--- the first schema has nothing that is looked for
-soughts_owned : (b : Bool) (db : Trees) (rs : List RecordRow) (ss : List SpanRow) (ls : List LinkRow)
-    (qs : List SoughtRow) → db 2 ≡ map record_values rs → HoldsLater b ss ls qs db → AreLaterKept b db
-    → AllByRecursion (λ (s : SoughtRow). list_any (λ (r : RecordRow). r.no == s.no) rs ≡ true) qs
-soughts_owned false db rs ss ls qs is holds keys =
-    subst (AllByRecursion (λ (s : SoughtRow). list_any (λ (r : RecordRow). r.no == s.no) rs ≡ true)) (sym holds.2) tt
-soughts_owned true db rs ss ls qs is holds keys =
-    all_mapped (λ row. passes ForeignKey (archive_schema true) db soughts row ≡ true)
-    (λ (s : SoughtRow). list_any (λ (r : RecordRow). r.no == s.no) rs ≡ true) sought_values (sought_there db rs is) qs
-    (subst (AllByRecursion (λ row. passes ForeignKey (archive_schema true) db soughts row ≡ true))
-    holds.soughts_kept.is keys.1.1.0)
+pack_refers : (db : Trees) (p : PackRow) → passes ForeignKey (archive_schema true) db packs (pack_values p) ≡ true
+    → list_any (λ parent. agree plain (0 ∷ []) parent (0 ∷ []) (pack_values p)) (db 2) ≡ true
+unfolding same_name joined
+pack_refers db p h = and_first _ _ h
 
--- the first schema has no spans
-spans_owned : (b : Bool) (db : Trees) (rs : List RecordRow) (ss : List SpanRow) (ls : List LinkRow)
-    (qs : List SoughtRow) → db 2 ≡ map record_values rs → HoldsLater b ss ls qs db → AreLaterKept b db
-    → AllByRecursion (λ (s : SpanRow). list_any (λ (r : RecordRow). r.no == s.no) rs ≡ true) ss
-spans_owned false db rs ss ls qs is holds keys =
-    subst (AllByRecursion (λ (s : SpanRow). list_any (λ (r : RecordRow). r.no == s.no) rs ≡ true)) (sym holds.0) tt
-spans_owned true db rs ss ls qs is holds keys =
-    all_mapped (λ row. passes ForeignKey (archive_schema true) db spans row ≡ true)
-    (λ (s : SpanRow). list_any (λ (r : RecordRow). r.no == s.no) rs ≡ true) span_values (spanned_there db rs is) ss
-    (subst (AllByRecursion (λ row. passes ForeignKey (archive_schema true) db spans row ≡ true)) holds.spans_kept.is
-    keys.0)
+packed_there : (db : Trees) (rs : List RecordRow) → db 2 ≡ map record_values rs → (p : PackRow)
+    → passes ForeignKey (archive_schema true) db packs (pack_values p) ≡ true
+    → list_any (λ (r : RecordRow). r.no == p.no) rs ≡ true
+packed_there db rs is p h =
+    let test = (λ (parent : Row). agree plain (0 ∷ []) parent (0 ∷ []) (pack_values p)) in
+    sym (ap (list_any test) is ∙ any_mapped test record_values rs
+    ∙ any_alike (λ r. test (record_values r)) (λ (r : RecordRow). r.no == p.no) (agrees_pack p) rs)
+    ∙ pack_refers db p h
+
+abbrev AreKept : Bool → Trees → Type 0
+AreKept b db = AllByRecursion (λ (t : Table). AllByRecursion
+    (λ row. passes ForeignKey (archive_schema b) db t row ≡ true) (db t.tree)) (more_tables b)
+
+abbrev Owned : List RecordRow → ℕ → Type 0
+Owned rs n = list_any (λ (r : RecordRow). r.no == n) rs ≡ true
+
+-- the rows of the tables that one schema has and the other has not
+record OwnRows (rs : List RecordRow) (ls : List LineRow) (ps : List PackRow) (ss : List SpanRow)
+    (qs : List SoughtRow) : Type 0 where
+  lines : AllByRecursion (λ (l : LineRow). Owned rs l.no) ls
+  packs : AllByRecursion (λ (p : PackRow). Owned rs p.no) ps
+  spans : AllByRecursion (λ (s : SpanRow). Owned rs s.no) ss
+  soughts : AllByRecursion (λ (s : SoughtRow). Owned rs s.no) qs
+
+own_rows : (b : Bool) (db : Trees) (rs : List RecordRow) (ls : List LineRow) (ps : List PackRow) (ss : List SpanRow)
+    (ks : List LinkRow) (qs : List SoughtRow) → db 2 ≡ map record_values rs → HoldsOwn b ls ps ss ks qs db
+    → AreKept b db → OwnRows rs ls ps ss qs
+own_rows false db rs ls ps ss ks qs is holds keys = record {
+  lines = all_mapped (λ row. passes ForeignKey (archive_schema false) db lines row ≡ true)
+      (λ (l : LineRow). Owned rs l.no) line_values (record_there db rs is) ls
+      (subst (AllByRecursion (λ row. passes ForeignKey (archive_schema false) db lines row ≡ true)) holds.0.is keys.0);
+  packs = subst (AllByRecursion (λ (p : PackRow). Owned rs p.no)) (sym holds.1) tt;
+  spans = subst (AllByRecursion (λ (s : SpanRow). Owned rs s.no)) (sym holds.2) tt;
+  soughts = subst (AllByRecursion (λ (s : SoughtRow). Owned rs s.no)) (sym holds.4) tt;
+}
+own_rows true db rs ls ps ss ks qs is holds keys = record {
+  lines = subst (AllByRecursion (λ (l : LineRow). Owned rs l.no)) (sym holds.0) tt;
+  packs = all_mapped (λ row. passes ForeignKey (archive_schema true) db packs row ≡ true)
+      (λ (p : PackRow). Owned rs p.no) pack_values (packed_there db rs is) ps
+      (subst (AllByRecursion (λ row. passes ForeignKey (archive_schema true) db packs row ≡ true))
+      holds.1.packs_kept.is keys.1.1.1.0);
+  spans = all_mapped (λ row. passes ForeignKey (archive_schema true) db spans row ≡ true)
+      (λ (s : SpanRow). Owned rs s.no) span_values (spanned_there db rs is) ss
+      (subst (AllByRecursion (λ row. passes ForeignKey (archive_schema true) db spans row ≡ true))
+      holds.1.spans_kept.is keys.1.1.1.1.0);
+  soughts = all_mapped (λ row. passes ForeignKey (archive_schema true) db soughts row ≡ true)
+      (λ (s : SoughtRow). Owned rs s.no) sought_values (sought_there db rs is) qs
+      (subst (AllByRecursion (λ row. passes ForeignKey (archive_schema true) db soughts row ≡ true))
+      holds.1.soughts_kept.is keys.1.1.1.1.1.1.0);
+}
 
 pub owned : (rows : Rows) (t : Trees) → Good rows t → AreOwned rows
 owned rows t good =
     let b = rows.has_spans in
     let keys = good.sound.obeys.rules ForeignKey in
+    let own = own_rows b t rows.records rows.lines rows.packs rows.spans rows.links rows.soughts
+    good.holds.records.is good.holds.own keys.1.1.1 in
     record {
-      lines = all_mapped (λ row. passes ForeignKey (archive_schema b) t lines row ≡ true)
-          (λ (l : LineRow). list_any (λ (r : RecordRow). r.no == l.no) rows.records ≡ true) line_values
-          (record_there b t rows.records good.holds.records.is) rows.lines
-          (subst (AllByRecursion (λ row. passes ForeignKey (archive_schema b) t lines row ≡ true)) good.holds.lines.is
-          keys.1.1.1.0);
+      lines = own.lines;
+      packs = own.packs;
       records = all_mapped (λ row. passes ForeignKey (archive_schema b) t records row ≡ true)
           (λ (r : RecordRow). list_any (λ (b : BatchRow). b.no == r.batch) rows.batches ≡ true) record_values
           (batch_there b t rows.batches good.holds.batches.is) rows.records
           (subst (AllByRecursion (λ row. passes ForeignKey (archive_schema b) t records row ≡ true))
           good.holds.records.is
           keys.1.1.0);
-      spans = spans_owned b t rows.records rows.spans rows.links rows.soughts good.holds.records.is good.holds.later
-          keys.1.1.1.1.1.1.1;
-      soughts = soughts_owned b t rows.records rows.spans rows.links rows.soughts good.holds.records.is
-          good.holds.later keys.1.1.1.1.1.1.1;
+      spans = own.spans;
+      soughts = own.soughts;
     }

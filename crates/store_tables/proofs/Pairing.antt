@@ -36,8 +36,10 @@ use Rattle.sqlite_value.proofs.OrderLemmas.{value_cmp-Int}
 use Rattle.store_tables.specs.Reading.{IsTypedLink, IsU32, pair_at, read_link}
 use Rattle.store_tables.specs.Rows.{
   Holds,
-  HoldsLater,
+  HoldsOwn,
+  LineRow,
   LinkRow,
+  PackRow,
   Rows,
   SoughtRow,
   SpanRow,
@@ -122,9 +124,23 @@ links_again (l ∷ ls) h = ap₂ (λ x xs. x ∷ xs) (pair_again l.target l.no h
 
 -- the links that tables hold are in the order of their places; those of the first schema hold none
 pub links_rise : (rows : Rows) (t : Trees) → Holds rows t → IsAscending (λ a b. link_place a < link_place b) rows.links
-links_rise rows t h = go rows.has_spans rows.spans rows.links rows.soughts h.later
+links_rise rows t h = go rows.has_spans rows.lines rows.packs rows.spans rows.links rows.soughts h.own
   where
-    go : (b : Bool) (spans : List SpanRow) (links : List LinkRow) (soughts : List SoughtRow)
-        → HoldsLater b spans links soughts t → IsAscending (λ a b. link_place a < link_place b) links
-    go false spans links soughts held = subst (IsAscending (λ a b. link_place a < link_place b)) (sym held.1) tt
-    go true spans links soughts held = held.links_kept.rise
+    go : (b : Bool) (lines : List LineRow) (packs : List PackRow) (spans : List SpanRow) (links : List LinkRow)
+        (soughts : List SoughtRow) → HoldsOwn b lines packs spans links soughts t
+        → IsAscending (λ a b. link_place a < link_place b) links
+    go false lines packs spans links soughts held =
+        subst (IsAscending (λ a b. link_place a < link_place b)) (sym held.3) tt
+    go true lines packs spans links soughts held = held.1.links_kept.rise
+
+-- and each number has one row with all its lines at the most
+pub packs_rise : (rows : Rows) (t : Trees) → Holds rows t
+    → IsAscending (λ (a b : PackRow). a.no < b.no) rows.packs
+packs_rise rows t h = go rows.has_spans rows.lines rows.packs rows.spans rows.links rows.soughts h.own
+  where
+    go : (b : Bool) (lines : List LineRow) (packs : List PackRow) (spans : List SpanRow) (links : List LinkRow)
+        (soughts : List SoughtRow) → HoldsOwn b lines packs spans links soughts t
+        → IsAscending (λ (a b : PackRow). a.no < b.no) packs
+    go false lines packs spans links soughts held =
+        subst (IsAscending (λ (a b : PackRow). a.no < b.no)) (sym held.1) tt
+    go true lines packs spans links soughts held = held.1.packs_kept.rise

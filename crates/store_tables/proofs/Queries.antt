@@ -18,7 +18,6 @@ use Rattle.store_tables.specs.Rows.{
   Rows,
   BatchRow,
   RecordRow,
-  LineRow,
   ReceiptRow,
   SlipRow,
   SlipLineRow,
@@ -27,7 +26,6 @@ use Rattle.store_tables.specs.Rows.{
   meta_values,
   batch_values,
   record_values,
-  line_values,
   receipt_values,
   slip_values,
   slip_line_values,
@@ -37,7 +35,6 @@ use Rattle.store_tables.specs.Shown.{
   shown_meta,
   shown_batch,
   shown_record,
-  shown_line,
   shown_receipt,
   shown_slip,
   shown_slip_line,
@@ -58,10 +55,6 @@ use Rattle.store_tables.proofs.Texts.{
   select_records_is,
   select_records_plain,
   select_records_unlisted,
-  select_lines,
-  select_lines_is,
-  select_lines_plain,
-  select_lines_unlisted,
   select_receipts,
   select_receipts_is,
   select_receipts_plain,
@@ -137,16 +130,6 @@ reads_records old new read rows has was h =
     (select_records_unlisted rows.has_spans) read h in
     all_in_order record_values (λ (x : RecordRow). x.no) (λ _. refl) 2 (col 1 0 ∷ col 1 3 ∷ [])
     (overlay old.now.trees []) rows.records read was.records (reads.answer Null)
-
-pub reads_lines : (old new : State) (read : List Row) (rows : Rows) → old.now.schema ≡ archive_schema rows.has_spans
-    → Holds rows old.now.trees → Shown select_lines [] old new read → read ≡ map shown_line rows.lines
-reads_lines old new read rows has was h =
-    let reads = reads_as select_lines [] old new (archive_schema rows.has_spans) has _ (select_lines_is rows.has_spans)
-    (select_lines_plain rows.has_spans)
-    (select_lines_unlisted rows.has_spans) read h in
-    all_in_order line_values (λ (x : LineRow). x.id) (λ _. refl) 3
-    (col 1 2 ∷ col 1 4 ∷ col 1 5 ∷ col 1 6 ∷ col 1 7 ∷ []) (overlay old.now.trees []) rows.lines read was.lines
-    (reads.answer Null)
 
 pub reads_receipts : (old new : State) (read : List Row) (rows : Rows) → old.now.schema ≡ archive_schema rows.has_spans
     → Holds rows old.now.trees → Shown select_receipts [] old new read → read ≡ map shown_receipt rows.receipts

@@ -45,6 +45,7 @@ use Rattle.store_tables.specs.Reading.{
   read_of,
   read_record,
   read_line,
+  read_pack,
   read_receipt,
   read_slip_line,
 }
@@ -78,7 +79,7 @@ each_is shown read Shows (x ∷ xs) [] h = absurd h
 each_is shown read Shows (x ∷ xs) (y ∷ ys) h =
     ap₂ (λ z zs. z ∷ zs) (h.0.0 x refl) (each_is shown read Shows xs ys h.1)
 
-all_typed : {X : Type 0} (shown : X → Row) (IsTyped : X → Type 0) (xs : List X) → AllByRecursion IsTyped xs
+pub all_typed : {X : Type 0} (shown : X → Row) (IsTyped : X → Type 0) (xs : List X) → AllByRecursion IsTyped xs
     → AllByRecursion (ShowsTyped shown IsTyped) (map shown xs)
 all_typed shown IsTyped [] h = tt
 all_typed shown IsTyped (x ∷ xs) h = ((x, refl, h.0), all_typed shown IsTyped xs h.1)
@@ -191,18 +192,20 @@ looks_with result h ok err = record {
 
 -- all that is read, part by part
 pub read_whole : (rows : Rows) (read : ReadRows) → read.next ≡ rows.next → (read.batches ≡ rows.batches)
-    × (read.records ≡ map read_record rows.records) × (read.lines ≡ map read_line rows.lines)
+    × (read.records ≡ map read_record rows.records)
+    → (read.lines ≡ map read_line rows.lines) × (read.packs ≡ map read_pack rows.packs)
     → (read.receipts ≡ map read_receipt rows.receipts) × (read.slips ≡ rows.slips)
     × (read.slip_lines ≡ map read_slip_line rows.slip_lines) → read ≡ read_of rows
-read_whole rows read next first second =
+read_whole rows read next first lines second =
     let parts : ReadRows = record {
       next = read.next;
       batches = read.batches;
       records = read.records;
       lines = read.lines;
+      packs = read.packs;
       receipts = read.receipts;
       slips = read.slips;
       slip_lines = read.slip_lines;
     } in
-    let same : parts ≡ read_of rows = rw (next, first.0, first.1, first.2, second.0, second.1, second.2) in
+    let same : parts ≡ read_of rows = rw (next, first.0, first.1, lines.0, lines.1, second.0, second.1, second.2) in
     same

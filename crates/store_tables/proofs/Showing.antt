@@ -1,5 +1,5 @@
 -- What plain queries show, one after the other: each leaves the connection as it was, so that all show the same tables.
-use Rattle.std.proofs.Common.{◌≡◌, ◌∙◌, ℕ, Bool, List, [], ◌∷◌, Ok, refl, sym, ap, subst}
+use Rattle.std.proofs.Common.{◌≡◌, ◌∙◌, ℕ, Bool, true, false, List, [], ◌∷◌, Ok, refl, sym, ap, subst}
 use Rattle.stored_lines.specs.Line.{Label}
 use Rattle.receipts.specs.declared.answer.Receipt.{Receipt}
 use Rattle.sqlite.specs.Clock.{timed}
@@ -14,6 +14,7 @@ use Rattle.store_tables.specs.Prepared.{
   batch_query,
   record_query,
   line_query,
+  pack_query,
   receipt_query,
   slip_query,
   slip_line_query,
@@ -26,7 +27,9 @@ use Rattle.store_tables.specs.Showing.{
   ShowsEach,
   ShowsHistory,
   ShowsLine,
+  ShowsLines,
   ShowsMeta,
+  ShowsPack,
   ShowsRead,
   ShowsReceipt,
   ShowsRecord,
@@ -35,9 +38,9 @@ use Rattle.store_tables.specs.Showing.{
   ShowsSlipLine,
 }
 use Rattle.store_tables.proofs.Queries.{plain_under, unchanged_by}
+use Rattle.store_tables.proofs.PackTexts.{select_lines_plain, select_packs_plain}
 use Rattle.store_tables.proofs.Texts.{
   select_batches_plain,
-  select_lines_plain,
   select_meta_plain,
   select_receipts_plain,
   select_records_plain,
@@ -142,17 +145,22 @@ module _ {A B C : Type 0} (first second third : List ℕ)
             shows_last,
       )
 
-pub shows_records : (old one two new : State) (batches : List BatchRow) (records : List (ℕ × ℕ))
-    (lines : List (ℕ × (ℕ × Label))) (has_spans : Bool) → old.now.schema ≡ archive_schema has_spans
-    → ShowsEach batch_query ShowsBatch old one batches
-    → (one.now.schema ≡ archive_schema has_spans → ShowsEach record_query ShowsRecord one two records)
-    → (two.now.schema ≡ archive_schema has_spans → ShowsEach line_query ShowsLine two new lines)
-    → ShowsRecords batches records lines old new
-shows_records old one two new batches records lines has_spans has a b c =
-    let all = shows_three batch_query record_query line_query
-    (select_batches_plain, select_records_plain, select_lines_plain) ShowsBatch ShowsRecord ShowsLine old one two new
-    batches records lines has_spans has a b c in
-    record { batches_shown = all.0; records_shown = all.1; lines_shown = all.2 }
+pub shows_records : (old one new : State) (batches : List BatchRow) (records : List (ℕ × ℕ)) (has_spans : Bool)
+    → old.now.schema ≡ archive_schema has_spans → ShowsEach batch_query ShowsBatch old one batches
+    → (one.now.schema ≡ archive_schema has_spans → ShowsEach record_query ShowsRecord one new records)
+    → ShowsRecords batches records old new
+shows_records old one new batches records has_spans has a b =
+    let kept_one = unchanged_each batch_query select_batches_plain ShowsBatch old one batches has_spans has a in
+    let has_one = has_after old one has_spans kept_one has in
+    let shows_last = b has_one in
+    let kept_last = unchanged_each record_query select_records_plain ShowsRecord one new records has_spans has_one
+    shows_last in
+    record {
+      batches_shown = each_between batch_query select_batches_plain ShowsBatch old old one new batches has_spans has
+          (seen_before old one kept_one) kept_last a;
+      records_shown = each_between record_query select_records_plain ShowsRecord old one new new records has_spans
+          has_one kept_one (seen_after one new kept_last) shows_last;
+    }
 
 pub shows_history : (old one two new : State) (receipts : List (List ℕ × Receipt)) (slips : List SlipRow)
     (slip_lines : List (ℕ × (Bool × (ℕ × (ℕ × Label))))) (has_spans : Bool) → old.now.schema ≡ archive_schema has_spans
@@ -167,18 +175,32 @@ shows_history old one two new receipts slips slip_lines has_spans has a b c =
     record { receipts_shown = all.0; slips_shown = all.1; slip_lines_shown = all.2 }
 
 -- records between two states are so between two others that see the same
-records_between : (x a b y : State) (batches : List BatchRow) (records : List (ℕ × ℕ))
-    (lines : List (ℕ × (ℕ × Label))) (has_spans : Bool) → a.now.schema ≡ archive_schema has_spans → IsUnchanged x a
-    → IsUnchanged b y
-    → ShowsRecords batches records lines a b → ShowsRecords batches records lines x y
-records_between x a b y batches records lines has_spans has before after h = record {
+records_between : (x a b y : State) (batches : List BatchRow) (records : List (ℕ × ℕ)) (has_spans : Bool)
+    → a.now.schema ≡ archive_schema has_spans → IsUnchanged x a → IsUnchanged b y → ShowsRecords batches records a b
+    → ShowsRecords batches records x y
+records_between x a b y batches records has_spans has before after h = record {
   batches_shown = each_between batch_query select_batches_plain ShowsBatch x a b y batches has_spans has before after
       h.batches_shown;
   records_shown = each_between record_query select_records_plain ShowsRecord x a b y records has_spans has before after
       h.records_shown;
-  lines_shown = each_between line_query select_lines_plain ShowsLine x a b y lines has_spans has before after
-      h.lines_shown;
 }
+
+-- and so are their lines, of whichever schema they are read
+pub lines_between : (b has_spans : Bool) (x a c y : State) (lines : List (ℕ × (ℕ × Label)))
+    (packs : List (ℕ × List (ℕ × Label))) → a.now.schema ≡ archive_schema b → IsUnchanged x a → IsUnchanged c y
+    → ShowsLines has_spans lines packs a c → ShowsLines has_spans lines packs x y
+lines_between b false x a c y lines packs has before after h =
+    (each_between line_query select_lines_plain ShowsLine x a c y lines b has before after h.0, h.1)
+lines_between b true x a c y lines packs has before after h =
+    (each_between pack_query select_packs_plain ShowsPack x a c y packs b has before after h.0, h.1)
+
+pub unchanged_lines : (has_spans : Bool) (old new : State) (lines : List (ℕ × (ℕ × Label)))
+    (packs : List (ℕ × List (ℕ × Label))) → old.now.schema ≡ archive_schema has_spans
+    → ShowsLines has_spans lines packs old new → IsUnchanged old new
+unchanged_lines false old new lines packs has h =
+    unchanged_each line_query select_lines_plain ShowsLine old new lines false has h.0
+unchanged_lines true old new lines packs has h =
+    unchanged_each pack_query select_packs_plain ShowsPack old new packs true has h.0
 
 history_between : (x a b y : State) (receipts : List (List ℕ × Receipt)) (slips : List SlipRow)
     (slip_lines : List (ℕ × (Bool × (ℕ × (ℕ × Label))))) (has_spans : Bool) → a.now.schema ≡ archive_schema has_spans
@@ -196,35 +218,42 @@ history_between x a b y receipts slips slip_lines has_spans has before after h =
 }
 
 -- all that is read, part by part
-pub shows_read : (old one two new : State) (read : ReadRows) (society : List ℕ) (has_spans : Bool)
+pub shows_read : (old one two three new : State) (read : ReadRows) (society : List ℕ) (has_spans : Bool)
     → old.now.schema ≡ archive_schema has_spans
     → ShowsEach meta_query ShowsMeta old one ((read.next, society) ∷ [])
-    → (one.now.schema ≡ archive_schema has_spans → ShowsRecords read.batches read.records read.lines one two)
-    → (two.now.schema ≡ archive_schema has_spans → ShowsHistory read.receipts read.slips read.slip_lines two new)
-    → ShowsRead read old new
-shows_read old one two new read society has_spans has a b c =
+    → (one.now.schema ≡ archive_schema has_spans → ShowsRecords read.batches read.records one two)
+    → (two.now.schema ≡ archive_schema has_spans → ShowsLines has_spans read.lines read.packs two three)
+    → (three.now.schema ≡ archive_schema has_spans → ShowsHistory read.receipts read.slips read.slip_lines three new)
+    → ShowsRead has_spans read old new
+shows_read old one two three new read society has_spans has a b c d =
     let kept_one = unchanged_each meta_query select_meta_plain ShowsMeta old one _ has_spans has a in
     let has_one = has_after old one has_spans kept_one has in
     let shows_two = b has_one in
-    let kept_two = unchanged_each line_query select_lines_plain ShowsLine one two read.lines has_spans has_one
-    shows_two.lines_shown in
-    let has_two = has_after one two has_spans kept_two has_one in
-    let shows_last = c has_two in
-    let kept_last = unchanged_each slip_query select_slips_plain ShowsSlip two new read.slips has_spans has_two
+    let records_kept = unchanged_each record_query select_records_plain ShowsRecord one two read.records has_spans
+    has_one shows_two.records_shown in
+    let has_two = has_after one two has_spans records_kept has_one in
+    let shows_three = c has_two in
+    let lines_kept = unchanged_lines has_spans two three read.lines read.packs has_two shows_three in
+    let has_three = has_after two three has_spans lines_kept has_two in
+    let shows_last = d has_three in
+    let kept_last = unchanged_each slip_query select_slips_plain ShowsSlip three new read.slips has_spans has_three
     shows_last.slips_shown in
-    let rest = unchanged_then one two new kept_two kept_last in
-    let two_steps = unchanged_then old one two kept_one kept_two in
+    let after_two = unchanged_then two three new lines_kept kept_last in
+    let after_one = unchanged_then one two new records_kept after_two in
+    let to_two = unchanged_then old one two kept_one records_kept in
+    let to_three = unchanged_then old two three to_two lines_kept in
     record {
       meta = (
         society,
         each_between meta_query select_meta_plain ShowsMeta old old one new _ has_spans has
-            (seen_before old one kept_one) rest a,
+            (seen_before old one kept_one) after_one a,
       );
-      records = records_between old one two new read.batches read.records read.lines has_spans has_one kept_one
-          kept_last
+      records = records_between old one two new read.batches read.records has_spans has_one kept_one after_two
           shows_two;
-      history = history_between old two new new read.receipts read.slips read.slip_lines has_spans has_two two_steps
-          (seen_after two new kept_last) shows_last;
+      lines = lines_between has_spans has_spans old two three new read.lines read.packs has_two to_two kept_last
+          shows_three;
+      history = history_between old three new new read.receipts read.slips read.slip_lines has_spans has_three to_three
+          (seen_after three new kept_last) shows_last;
     }
 
 unchanged_back : (old new : State) → IsUnchanged old new → IsUnchanged new old
@@ -242,11 +271,10 @@ unchanged_back old new h = (
 
 -- what the queries show until the last, they show of the tables as they are
 pub read_at : (old new : State) (read : ReadRows) (has_spans : Bool) → old.now.schema ≡ archive_schema has_spans
-    → ShowsRead read old new
-    → ShowsRead read old old
+    → ShowsRead has_spans read old new → ShowsRead has_spans read old old
 read_at old new read has_spans has h =
-    let kept = unchanged_each line_query select_lines_plain ShowsLine old new read.lines has_spans has
-    h.records.lines_shown in
+    let kept = unchanged_each record_query select_records_plain ShowsRecord old new read.records has_spans has
+    h.records.records_shown in
     let back = unchanged_back old new kept in
     let same = seen_before old new kept in
     record {
@@ -254,7 +282,8 @@ read_at old new read has_spans has h =
         h.meta.0,
         each_between meta_query select_meta_plain ShowsMeta old old new old _ has_spans has same back h.meta.1,
       );
-      records = records_between old old new old read.batches read.records read.lines has_spans has same back h.records;
+      records = records_between old old new old read.batches read.records has_spans has same back h.records;
+      lines = lines_between has_spans has_spans old old new old read.lines read.packs has same back h.lines;
       history = history_between old old new old read.receipts read.slips read.slip_lines has_spans has same back
           h.history;
     }

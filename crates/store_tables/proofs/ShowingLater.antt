@@ -10,7 +10,6 @@ use Rattle.store_tables.specs.Looking.{meta_query}
 use Rattle.store_tables.specs.Prepared.{
   batch_query,
   record_query,
-  line_query,
   link_query,
   receipt_query,
   slip_query,
@@ -24,7 +23,6 @@ use Rattle.store_tables.specs.Schema.{archive_schema}
 use Rattle.store_tables.specs.Showing.{
   ShowsBatch,
   ShowsEach,
-  ShowsLine,
   ShowsLink,
   ShowsLinks,
   ShowsMeta,
@@ -39,13 +37,12 @@ use Rattle.store_tables.specs.Showing.{
   ShowsSpans,
 }
 use Rattle.store_tables.proofs.Queries.{unchanged_by}
-use Rattle.store_tables.proofs.Showing.{each_between, has_after, seen_before, shown_between}
+use Rattle.store_tables.proofs.Showing.{each_between, has_after, lines_between, seen_before, shown_between}
 use Rattle.store_tables.proofs.LinkTexts.{select_links_plain}
 use Rattle.store_tables.proofs.SoughtTexts.{select_soughts_plain}
 use Rattle.store_tables.proofs.SpanTexts.{select_spans_plain}
 use Rattle.store_tables.proofs.Texts.{
   select_batches_plain,
-  select_lines_plain,
   select_meta_plain,
   select_receipts_plain,
   select_records_plain,
@@ -113,14 +110,14 @@ module _ {X : Type 0} (sql : List ℕ) (plain : IsPlain (understood (archive_sch
       (back old mid kept) shows
 
   -- all that is shown behind it
-  pub read_before : (read : ReadRows) → ShowsRead read mid mid → ShowsRead read old old
-  read_before read shows = record {
+  pub read_before : (b : Bool) (read : ReadRows) → ShowsRead b read mid mid → ShowsRead b read old old
+  read_before b read shows = record {
     meta = (shows.meta.0, same meta_query select_meta_plain ShowsMeta _ shows.meta.1);
     records = record {
       batches_shown = same batch_query select_batches_plain ShowsBatch read.batches shows.records.batches_shown;
       records_shown = same record_query select_records_plain ShowsRecord read.records shows.records.records_shown;
-      lines_shown = same line_query select_lines_plain ShowsLine read.lines shows.records.lines_shown;
     };
+    lines = lines_between true b old mid mid old read.lines read.packs has_behind kept (back old mid kept) shows.lines;
     history = record {
       receipts_shown = same receipt_query select_receipts_plain ShowsReceipt read.receipts shows.history.receipts_shown;
       slips_shown = same slip_query select_slips_plain ShowsSlip read.slips shows.history.slips_shown;
@@ -159,8 +156,8 @@ module _ (old one two mid : State) (spans : List SpanRow) (links : List LinkRow)
       select_soughts_plain ShowsSought soughts
       (shown_at sought_query select_soughts_plain ShowsSought two mid soughts has_two (last has_two)))
 
-  pub rows_shown : (read : ReadRows) → ShowsRead read mid mid → ShowsRead read old old
-  rows_shown read shows =
-      read_before span_query select_spans_plain ShowsSpan old one spans has first read
-      (read_before link_query select_links_plain ShowsLink one two links has_one (then has_one) read
-      (read_before sought_query select_soughts_plain ShowsSought two mid soughts has_two (last has_two) read shows))
+  pub rows_shown : (b : Bool) (read : ReadRows) → ShowsRead b read mid mid → ShowsRead b read old old
+  rows_shown b read shows =
+      read_before span_query select_spans_plain ShowsSpan old one spans has first b read
+      (read_before link_query select_links_plain ShowsLink one two links has_one (then has_one) b read
+      (read_before sought_query select_soughts_plain ShowsSought two mid soughts has_two (last has_two) b read shows))

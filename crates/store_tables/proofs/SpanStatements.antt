@@ -80,7 +80,7 @@ use Rattle.store_tables.proofs.SpanTexts.{
 }
 use Rattle.store_tables.proofs.Writing.{inserts, deletes, updates, cast_int, cast_null}
 use Rattle.store_tables.proofs.Finding.{simple, answered}
-use Rattle.store_tables.proofs.Statements.{Becomes, becomes, no_work, others_of, later_on, truth_of}
+use Rattle.store_tables.proofs.Statements.{Becomes, becomes, no_work, others_of, own_on, truth_of}
 use Rattle.store_tables.proofs.Coded.{same_int, keeps_put, keeps_less, keeps_on}
 use Rattle.list_laws.proofs.Lists.{map_map}
 
@@ -117,7 +117,8 @@ inserts_span old new n lo hi count has h =
       holds = λ rows dated typed was.
           let kept = kept_of rows db dated was in
           let after = put_by (λ (s : SpanRow). s.no) item rows.spans in
-          beside rows after rows.links rows.soughts db now edit applied (omega arith) dated (record {
+          beside rows rows.packs after rows.links rows.soughts db now edit applied (omega arith) dated (record {
+            packs_kept = keeps_on _ _ _ (late 11 (omega arith) (omega arith) (omega arith)) kept.packs_kept;
             spans_kept = keeps_on _ _ (now 12) (applied.rows ∙ row)
                 (keeps_put span_values (λ (s : SpanRow). s.no) (λ _. refl) item rows.spans (db 12) kept.spans_kept);
             links_kept = keeps_on _ _ _ (late 13 (omega arith) (omega arith) (omega arith)) kept.links_kept;
@@ -163,7 +164,8 @@ deletes_span old new n count has h =
           subst (λ k. IsPermutation k (ids_of found)) (map_map _ _ (filter (λ (x : SpanRow). x.no == n) rows.spans))
           (IsPermutation-map (λ r. id_in (rowid r)) _ _ all) in
           let after = filter (λ (x : SpanRow). not (x.no == n)) rows.spans in
-          beside rows after rows.links rows.soughts db now edit applied (omega arith) dated (record {
+          beside rows rows.packs after rows.links rows.soughts db now edit applied (omega arith) dated (record {
+            packs_kept = keeps_on _ _ _ (late 11 (omega arith) (omega arith) (omega arith)) kept.packs_kept;
             spans_kept = keeps_on _ _ (now 12) applied.rows
                 (keeps_less span_values (λ (s : SpanRow). s.no) (λ _. refl) (λ x. x.no == n) rows.spans (db 12)
                 (ids_of found) ids kept.spans_kept);
@@ -188,7 +190,7 @@ sets_either old new count b has h =
     let rows = did.1 in
     let db = old.now.trees in
     let now = new.now.trees in
-    becomes b old new w.sound did.0 (λ _. refl) (λ c was.
+    becomes b old new w.sound did.0 (λ _. refl) (λ c fits was.
     let found : IsPermutation
     ((Int (pos 1) ∷ Int (pos 1) ∷ Null ∷ Int (pos 2) ∷ Int (pos c.next) ∷ Text c.society ∷ []) ∷ []) rows =
     answered meta_values [] [] (λ _. true) (λ _. refl) 0 project [] (overlay db []) (c ∷ []) rows was.meta
@@ -207,11 +209,10 @@ sets_either old new count b has h =
           was.meta ∙ ap (put_row (meta_values (with_version 2 c))) (only_one c);
       batches = keeps_on _ _ _ (same 1 (omega arith) (omega arith)) was.batches;
       records = keeps_on _ _ _ (same 2 (omega arith) (omega arith)) was.records;
-      lines = keeps_on _ _ _ (same 3 (omega arith) (omega arith)) was.lines;
       receipts = keeps_on _ _ _ (same 4 (omega arith) (omega arith)) was.receipts;
       slips = keeps_on _ _ _ (same 5 (omega arith) (omega arith)) was.slips;
       slip_lines = keeps_on _ _ _ (same 6 (omega arith) (omega arith)) was.slip_lines;
-      later = later_on b c db now edit applied (omega arith) was.later;
+      own = own_on b c db now edit applied (omega arith) (omega arith) fits was.own;
     })
 
 pub sets_version : (old new : State) (count : ℕ) → old.now.schema ≡ archive_schema true
@@ -222,7 +223,7 @@ sets_version old new count has h =
       schema = did.schema;
       sound = did.sound;
       same = did.same;
-      holds = λ rows dated typed was. did.holds rows was;
+      holds = λ rows dated typed was. did.holds rows dated was;
     }
 
 -- a day that may be missing, as it is bound

@@ -23,6 +23,7 @@ use Rattle.std.proofs.Common.{
   if◌then◌else◌,
   cond,
   refl,
+  sym,
   ap,
   subst,
   ◌∙◌,
@@ -58,12 +59,13 @@ use Rattle.sqlite.proofs.Callers.{runs_as, one_step, one_permutation, statement_
 use Rattle.sqlite.specs.Listing.{understood}
 use Rattle.stored_lines.specs.Line.{Label}
 use Rattle.receipts.specs.declared.answer.Receipt.{Receipt}
-use Rattle.store_tables.specs.Schema.{archive_schema, meta, batches, records, lines, receipts, slips, slip_lines}
+use Rattle.store_tables.specs.Schema.{archive_schema, meta, batches, records, receipts, slips, slip_lines}
 use Rattle.store_tables.specs.Rows.{
   Rows,
   BatchRow,
   RecordRow,
   LineRow,
+  PackRow,
   ReceiptRow,
   SlipRow,
   SlipLineRow,
@@ -71,10 +73,9 @@ use Rattle.store_tables.specs.Rows.{
   LinkRow,
   SoughtRow,
   Holds,
-  HoldsLater,
+  HoldsOwn,
   meta_values,
   batch_values,
-  line_values,
   line_fields,
   record_values,
   receipt_values,
@@ -87,9 +88,7 @@ use Rattle.store_tables.specs.Rows.{
   next_key,
   bare_first,
   with_batch,
-  without_lines,
   with_record_row,
-  with_line,
   with_next,
   without_record_row,
   with_receipt,
@@ -99,24 +98,24 @@ use Rattle.store_tables.specs.Rows.{
 }
 use Rattle.store_tables.proofs.Texts.{
   with_key,
+  receipts_place,
+  receipts_listed,
+  slips_place,
+  slips_listed,
+  slip_lines_place,
+  slip_lines_listed,
   insert_meta,
   insert_meta_is,
   insert_meta_plain,
   insert_batch,
   insert_batch_is,
   insert_batch_plain,
-  delete_lines,
-  delete_lines_is,
-  delete_lines_plain,
   delete_slip_lines,
   delete_slip_lines_is,
   delete_slip_lines_plain,
   insert_record,
   insert_record_is,
   insert_record_plain,
-  insert_line,
-  insert_line_is,
-  insert_line_plain,
   delete_record,
   delete_record_is,
   delete_record_plain,
@@ -143,11 +142,12 @@ pub record Becomes (b : Bool) (old new : State) (f : Rows → Rows) : Type 0 whe
   pub schema : new.now.schema ≡ archive_schema b
   pub sound : IsSound (archive_schema b) new.now.trees
   pub same : (rows : Rows) → (f rows).has_spans ≡ rows.has_spans
-  pub holds : (rows : Rows) → Holds rows old.now.trees → Holds (f rows) new.now.trees
+  pub holds : (rows : Rows) → rows.has_spans ≡ b → Holds rows old.now.trees → Holds (f rows) new.now.trees
 
 pub becomes : {f : Rows → Rows} (b : Bool) (old new : State) → IsDatabase new.now → new.now.schema ≡ archive_schema b
     → ((rows : Rows) → (f rows).has_spans ≡ rows.has_spans)
-    → ((rows : Rows) → Holds rows old.now.trees → Holds (f rows) new.now.trees) → Becomes b old new f
+    → ((rows : Rows) → rows.has_spans ≡ b → Holds rows old.now.trees → Holds (f rows) new.now.trees)
+    → Becomes b old new f
 becomes b old new sound has same holds = record {
   schema = has;
   sound = subst (λ s. IsSound s new.now.trees) has sound;
@@ -178,52 +178,42 @@ no_early_index false t low = (
   omega (arith, low),
   (omega (arith, low), (omega (arith, low), (omega (arith, low), (omega (arith, low), tt)))),
 )
-no_early_index true t low = (
-  omega (arith, low),
-  (
-    omega (arith, low),
-    (omega (arith, low), (omega (arith, low), (omega (arith, low), (omega (arith, low), tt)))),
-  ),
-)
+no_early_index true t low = (omega (arith, low), (omega (arith, low), (omega (arith, low), tt)))
 
 pub others_of : (b : Bool) (old new : Trees) (edit : Edit) → Applies (archive_schema b) Enforced old edit new
     → Others old new edit.table.tree
 others_of b old new edit a t low off = a.others t off (no_early_index b t low)
 
--- nor is one of those that the second schema has beside them
-pub no_late_index : (b : Bool) (t : ℕ) → 11 < t → t < 16 → IsNoIndex (archive_schema b) t
-no_late_index false t high low = (
-  omega (arith, high),
-  (omega (arith, high), (omega (arith, high), (omega (arith, high), (omega (arith, high), tt)))),
-)
-no_late_index true t high low = (
-  omega (arith, high),
-  (
-    omega (arith, high),
-    (omega (arith, high), (omega (arith, high), (omega (arith, high), (omega (arith, low), tt)))),
-  ),
+-- nor is one of those that the second schema alone has
+pub no_late_index : (t : ℕ) → 10 < t → t < 16 → IsNoIndex (archive_schema true) t
+no_late_index t high low = (omega (arith, high), (omega (arith, high), (omega (arith, low), tt)))
+
+-- a change of a table that both schemas have leaves those that one of them has
+own_same : (b : Bool) (lines : List LineRow) (packs : List PackRow) (spans : List SpanRow) (links : List LinkRow)
+    (soughts : List SoughtRow) (old new : Trees) → new 3 ≡ old 3
+    → (b ≡ true → (t : ℕ) → 10 < t → t < 16 → new t ≡ old t) → HoldsOwn b lines packs spans links soughts old
+    → HoldsOwn b lines packs spans links soughts new
+own_same false lines packs spans links soughts old new early late was =
+    (keeps_on _ _ _ early was.0, was.1, was.2, was.3, was.4)
+own_same true lines packs spans links soughts old new early late was = (
+  was.0,
+  record {
+    packs_kept = keeps_on _ _ _ (late refl 11 (omega arith) (omega arith)) was.1.packs_kept;
+    spans_kept = keeps_on _ _ _ (late refl 12 (omega arith) (omega arith)) was.1.spans_kept;
+    links_kept = keeps_on _ _ _ (late refl 13 (omega arith) (omega arith)) was.1.links_kept;
+    soughts_kept = keeps_on _ _ _ (late refl 14 (omega arith) (omega arith)) was.1.soughts_kept;
+  },
 )
 
--- a change of a table of the first schema leaves those of the second one
-same_later : (b : Bool) (spans : List SpanRow) (links : List LinkRow) (soughts : List SoughtRow) (old new : Trees)
-    → new 12 ≡ old 12 → new 13 ≡ old 13 → new 14 ≡ old 14 → HoldsLater b spans links soughts old
-    → HoldsLater b spans links soughts new
-same_later false spans links soughts old new p q r was = was
-same_later true spans links soughts old new p q r was = record {
-  spans_kept = keeps_on _ _ _ p was.spans_kept;
-  links_kept = keeps_on _ _ _ q was.links_kept;
-  soughts_kept = keeps_on _ _ _ r was.soughts_kept;
-}
-
-pub later_on : (b : Bool) (rows : Rows) (old new : Trees) (edit : Edit)
-    → Applies (archive_schema b) Enforced old edit new → edit.table.tree < 7
-    → HoldsLater rows.has_spans rows.spans rows.links rows.soughts old
-    → HoldsLater rows.has_spans rows.spans rows.links rows.soughts new
-later_on b rows old new edit a low was =
-    same_later rows.has_spans rows.spans rows.links rows.soughts old new
-    (a.others 12 (omega (arith, low)) (no_late_index b 12 (omega arith) (omega arith)))
-    (a.others 13 (omega (arith, low)) (no_late_index b 13 (omega arith) (omega arith)))
-    (a.others 14 (omega (arith, low)) (no_late_index b 14 (omega arith) (omega arith))) was
+pub own_on : (b : Bool) (rows : Rows) (old new : Trees) (edit : Edit)
+    → Applies (archive_schema b) Enforced old edit new → edit.table.tree < 7 → 3 ≢ edit.table.tree
+    → rows.has_spans ≡ b → HoldsOwn rows.has_spans rows.lines rows.packs rows.spans rows.links rows.soughts old
+    → HoldsOwn rows.has_spans rows.lines rows.packs rows.spans rows.links rows.soughts new
+own_on b rows old new edit a low off fits was =
+    own_same rows.has_spans rows.lines rows.packs rows.spans rows.links rows.soughts old new
+    (others_of b old new edit a 3 (omega arith) off)
+    (λ second t high under. a.others t (omega (arith, low, high))
+    (subst (λ c. IsNoIndex (archive_schema c) t) (sym second ∙ fits) (no_late_index t high under))) was
 
 -- what sets off nothing in either schema
 pub no_work : (b : Bool) (db : Trees) (edit : Edit)
@@ -257,16 +247,15 @@ inserts_batch old new n is_open count b has h =
       cast_int (pos (flag is_open)),
       cast_null,
     ) refl in
-    becomes b old new w.sound did.0 (λ _. refl) (λ rows was. record {
+    becomes b old new w.sound did.0 (λ _. refl) (λ rows fits was. record {
       meta = same 0 (omega arith) (omega arith) ∙ was.meta;
       batches = keeps_on _ _ (now 1) (applied.rows ∙ row)
           (keeps_put batch_values (λ (b : BatchRow). b.no) (λ _. refl) item rows.batches (db 1) was.batches);
       records = keeps_on _ _ _ (same 2 (omega arith) (omega arith)) was.records;
-      lines = keeps_on _ _ _ (same 3 (omega arith) (omega arith)) was.lines;
       receipts = keeps_on _ _ _ (same 4 (omega arith) (omega arith)) was.receipts;
       slips = keeps_on _ _ _ (same 5 (omega arith) (omega arith)) was.slips;
       slip_lines = keeps_on _ _ _ (same 6 (omega arith) (omega arith)) was.slip_lines;
-      later = later_on b rows db now edit applied (omega arith) was.later;
+      own = own_on b rows db now edit applied (omega arith) (omega arith) fits was.own;
     })
 
 pub inserts_record : (old new : State) (n : ℕ) (kind : List ℕ) (batch : ℕ) (count : ℕ) (b : Bool)
@@ -291,16 +280,15 @@ inserts_record old new n kind batch count b has h =
       cast_int (pos batch),
       cast_null,
     ) refl in
-    becomes b old new w.sound did.0 (λ _. refl) (λ rows was. record {
+    becomes b old new w.sound did.0 (λ _. refl) (λ rows fits was. record {
       meta = same 0 (omega arith) (omega arith) ∙ was.meta;
       batches = keeps_on _ _ _ (same 1 (omega arith) (omega arith)) was.batches;
       records = keeps_on _ _ (now 2) (applied.rows ∙ row)
           (keeps_put record_values (λ (r : RecordRow). r.no) (λ _. refl) item rows.records (db 2) was.records);
-      lines = keeps_on _ _ _ (same 3 (omega arith) (omega arith)) was.lines;
       receipts = keeps_on _ _ _ (same 4 (omega arith) (omega arith)) was.receipts;
       slips = keeps_on _ _ _ (same 5 (omega arith) (omega arith)) was.slips;
       slip_lines = keeps_on _ _ _ (same 6 (omega arith) (omega arith)) was.slip_lines;
-      later = later_on b rows db now edit applied (omega arith) was.later;
+      own = own_on b rows db now edit applied (omega arith) (omega arith) fits was.own;
     })
 
 pub inserts_slip : (old new : State) (n keep gone : ℕ) (is_undone : Bool) (count : ℕ) (b : Bool)
@@ -311,9 +299,10 @@ pub inserts_slip : (old new : State) (n keep gone : ℕ) (is_undone : Bool) (cou
 inserts_slip old new n keep gone is_undone count b has h =
     let params = Int (pos n) ∷ Int (pos keep) ∷ Int (pos gone) ∷ Int (pos (flag is_undone)) ∷ [] in
     let terms = col 0 0 ∷ lit Null ∷ col 0 1 ∷ col 0 2 ∷ col 0 3 ∷ [] in
-    let w = runs_as insert_slip params old new (archive_schema b) has (Insert 5 (Values terms 5)) (insert_slip_is b)
+    let w = runs_as insert_slip params old new (archive_schema b) has (Insert (slips_place b) (Values terms 5))
+    (insert_slip_is b)
     (insert_slip_plain b) count h in
-    let did = inserts (archive_schema b) slips 5 refl refl old new.now w.tally params
+    let did = inserts (archive_schema b) slips (slips_place b) (slips_listed b) refl old new.now w.tally params
     (statement_of insert_slip (understood (archive_schema b) insert_slip)) terms 5 has w.changed in
     let db = old.now.trees in
     let now = new.now.trees in
@@ -328,59 +317,18 @@ inserts_slip old new n keep gone is_undone count b has h =
       cast_int (pos (flag is_undone)),
       cast_null,
     ) refl in
-    becomes b old new w.sound did.0 (λ _. refl) (λ rows was. record {
+    becomes b old new w.sound did.0 (λ _. refl) (λ rows fits was. record {
       meta = same 0 (omega arith) (omega arith) ∙ was.meta;
       batches = keeps_on _ _ _ (same 1 (omega arith) (omega arith)) was.batches;
       records = keeps_on _ _ _ (same 2 (omega arith) (omega arith)) was.records;
-      lines = keeps_on _ _ _ (same 3 (omega arith) (omega arith)) was.lines;
       receipts = keeps_on _ _ _ (same 4 (omega arith) (omega arith)) was.receipts;
       slips = keeps_on _ _ (now 5) (applied.rows ∙ row)
           (keeps_put slip_values (λ (s : SlipRow). s.no) (λ _. refl) item rows.slips (db 5) was.slips);
       slip_lines = keeps_on _ _ _ (same 6 (omega arith) (omega arith)) was.slip_lines;
-      later = later_on b rows db now edit applied (omega arith) was.later;
+      own = own_on b rows db now edit applied (omega arith) (omega arith) fits was.own;
     })
 
 -- ---- rows whose key is chosen
-
-pub inserts_line : (old new : State) (n at : ℕ) (line : ℕ × Label) (count : ℕ) (b : Bool)
-    → old.now.schema ≡ archive_schema b
-    → Executes insert_line (Int (pos n) ∷ Int (pos at) ∷ line_fields line) old new (Ok count)
-    → Becomes b old new (with_line n at line)
-inserts_line old new n at line count b has h =
-    let params = Int (pos n) ∷ Int (pos at) ∷ line_fields line in
-    let terms = lit Null ∷ lit Null ∷ col 0 0 ∷ col 0 1 ∷ col 0 2 ∷ col 0 3 ∷ col 0 4 ∷ col 0 5 ∷ [] in
-    let w = runs_as insert_line params old new (archive_schema b) has (Insert 3 (Values terms 8)) (insert_line_is b)
-    (insert_line_plain b) count h in
-    let did = inserts (archive_schema b) lines 3 refl refl old new.now w.tally params
-    (statement_of insert_line (understood (archive_schema b) insert_line)) terms 8 has w.changed in
-    let db = old.now.trees in
-    let now = new.now.trees in
-    let edit = edit_of db lines [] Chosen 0 (value_rows params 8 1 terms) in
-    let applied = one_step (archive_schema b) Enforced db now edit (no_work b db edit refl refl) did.1 in
-    let same = others_of b db now edit applied in
-    let fields = Null ∷ Int (pos n) ∷ Int (pos at) ∷ line_fields line in
-    let row : edited db edit ≡ put_row (Int (next_rowid (db 3)) ∷ fields) (db 3) = rw (
-      cast_null,
-      cast_int (pos n),
-      cast_int (pos at),
-      cast_int (pos line.0),
-      cast_words line.1.text,
-      cast_number line.1.target,
-    ) refl in
-    becomes b old new w.sound did.0 (λ _. refl) (λ rows was.
-    let item : LineRow = record { id = next_key (λ (l : LineRow). l.id) rows.lines; no = n; at = at; line = line } in
-    record {
-      meta = same 0 (omega arith) (omega arith) ∙ was.meta;
-      batches = keeps_on _ _ _ (same 1 (omega arith) (omega arith)) was.batches;
-      records = keeps_on _ _ _ (same 2 (omega arith) (omega arith)) was.records;
-      lines = keeps_on _ _ (now 3) (applied.rows ∙ row ∙ ap (λ i. put_row (Int i ∷ fields) (db 3))
-          (chosen_key line_values (λ (l : LineRow). l.id) (λ _. refl) rows.lines (db 3) was.lines.is))
-          (keeps_last line_values (λ (l : LineRow). l.id) (λ _. refl) item rows.lines (db 3) refl was.lines);
-      receipts = keeps_on _ _ _ (same 4 (omega arith) (omega arith)) was.receipts;
-      slips = keeps_on _ _ _ (same 5 (omega arith) (omega arith)) was.slips;
-      slip_lines = keeps_on _ _ _ (same 6 (omega arith) (omega arith)) was.slip_lines;
-      later = later_on b rows db now edit applied (omega arith) was.later;
-    })
 
 pub inserts_receipt : (old new : State) (token : List ℕ) (receipt : Receipt) (count : ℕ)
     (b : Bool) → old.now.schema ≡ archive_schema b
@@ -389,10 +337,10 @@ pub inserts_receipt : (old new : State) (token : List ℕ) (receipt : Receipt) (
 inserts_receipt old new token receipt count b has h =
     let params = Text token ∷ receipt_fields receipt in
     let terms = lit Null ∷ lit Null ∷ col 0 0 ∷ col 0 1 ∷ col 0 2 ∷ col 0 3 ∷ [] in
-    let w = runs_as insert_receipt params old new (archive_schema b) has (Insert 4 (Values terms 6))
+    let w = runs_as insert_receipt params old new (archive_schema b) has (Insert (receipts_place b) (Values terms 6))
     (insert_receipt_is b)
     (insert_receipt_plain b) count h in
-    let did = inserts (archive_schema b) receipts 4 refl refl old new.now w.tally params
+    let did = inserts (archive_schema b) receipts (receipts_place b) (receipts_listed b) refl old new.now w.tally params
     (statement_of insert_receipt (understood (archive_schema b) insert_receipt)) terms 6 has w.changed in
     let db = old.now.trees in
     let now = new.now.trees in
@@ -402,7 +350,7 @@ inserts_receipt old new token receipt count b has h =
     let fields = Null ∷ Text token ∷ receipt_fields receipt in
     let row : edited db edit ≡ put_row (Int (next_rowid (db 4)) ∷ fields) (db 4) = rw
     (cast_null, cast_int (pos receipt.answer.first), cast_int (pos receipt.answer.count)) refl in
-    becomes b old new w.sound did.0 (λ _. refl) (λ rows was.
+    becomes b old new w.sound did.0 (λ _. refl) (λ rows fits was.
     let item : ReceiptRow = record {
       id = next_key (λ (r : ReceiptRow). r.id) rows.receipts;
       token = token;
@@ -412,14 +360,13 @@ inserts_receipt old new token receipt count b has h =
       meta = same 0 (omega arith) (omega arith) ∙ was.meta;
       batches = keeps_on _ _ _ (same 1 (omega arith) (omega arith)) was.batches;
       records = keeps_on _ _ _ (same 2 (omega arith) (omega arith)) was.records;
-      lines = keeps_on _ _ _ (same 3 (omega arith) (omega arith)) was.lines;
       receipts = keeps_on _ _ (now 4) (applied.rows ∙ row ∙ ap (λ i. put_row (Int i ∷ fields) (db 4))
           (chosen_key receipt_values (λ (r : ReceiptRow). r.id) (λ _. refl) rows.receipts (db 4) was.receipts.is))
           (keeps_last receipt_values (λ (r : ReceiptRow). r.id) (λ _. refl) item rows.receipts
           (db 4) refl was.receipts);
       slips = keeps_on _ _ _ (same 5 (omega arith) (omega arith)) was.slips;
       slip_lines = keeps_on _ _ _ (same 6 (omega arith) (omega arith)) was.slip_lines;
-      later = later_on b rows db now edit applied (omega arith) was.later;
+      own = own_on b rows db now edit applied (omega arith) (omega arith) fits was.own;
     })
 
 pub inserts_slip_line : (old new : State) (slip : ℕ) (is_new : Bool) (n at : ℕ) (line : ℕ × Label) (count : ℕ)
@@ -430,10 +377,12 @@ inserts_slip_line old new slip is_new n at line count b has h =
     let params = Int (pos slip) ∷ Int (pos (flag is_new)) ∷ Int (pos n) ∷ Int (pos at) ∷ line_fields line in
     let terms = lit Null ∷ lit Null ∷ col 0 0 ∷ col 0 1 ∷ col 0 2 ∷ col 0 3 ∷ col 0 4 ∷ col 0 5 ∷ col 0 6
     ∷ col 0 7 ∷ [] in
-    let w = runs_as insert_slip_line params old new (archive_schema b) has (Insert 6 (Values terms 10))
+    let w = runs_as insert_slip_line params old new (archive_schema b) has (Insert (slip_lines_place b)
+    (Values terms 10))
     (insert_slip_line_is b)
     (insert_slip_line_plain b) count h in
-    let did = inserts (archive_schema b) slip_lines 6 refl refl old new.now w.tally params
+    let did = inserts (archive_schema b) slip_lines (slip_lines_place b) (slip_lines_listed b)
+    refl old new.now w.tally params
     (statement_of insert_slip_line (understood (archive_schema b) insert_slip_line)) terms 10 has w.changed in
     let db = old.now.trees in
     let now = new.now.trees in
@@ -451,7 +400,7 @@ inserts_slip_line old new slip is_new n at line count b has h =
       cast_words line.1.text,
       cast_number line.1.target,
     ) refl in
-    becomes b old new w.sound did.0 (λ _. refl) (λ rows was.
+    becomes b old new w.sound did.0 (λ _. refl) (λ rows fits was.
     let item : SlipLineRow = record {
       id = next_key (λ (s : SlipLineRow). s.id) rows.slip_lines;
       slip = slip;
@@ -464,61 +413,16 @@ inserts_slip_line old new slip is_new n at line count b has h =
       meta = same 0 (omega arith) (omega arith) ∙ was.meta;
       batches = keeps_on _ _ _ (same 1 (omega arith) (omega arith)) was.batches;
       records = keeps_on _ _ _ (same 2 (omega arith) (omega arith)) was.records;
-      lines = keeps_on _ _ _ (same 3 (omega arith) (omega arith)) was.lines;
       receipts = keeps_on _ _ _ (same 4 (omega arith) (omega arith)) was.receipts;
       slips = keeps_on _ _ _ (same 5 (omega arith) (omega arith)) was.slips;
       slip_lines = keeps_on _ _ (now 6) (applied.rows ∙ row ∙ ap (λ i. put_row (Int i ∷ fields) (db 6))
           (chosen_key slip_line_values (λ (s : SlipLineRow). s.id) (λ _. refl) rows.slip_lines
           (db 6) was.slip_lines.is)) (keeps_last slip_line_values (λ (s : SlipLineRow). s.id)
           (λ _. refl) item rows.slip_lines (db 6) refl was.slip_lines);
-      later = later_on b rows db now edit applied (omega arith) was.later;
+      own = own_on b rows db now edit applied (omega arith) (omega arith) fits was.own;
     })
 
 -- ---- DELETE
-
-passes_3 : (n : ℕ) (x : LineRow) → list_all (holds ((Int (pos n) ∷ []) ∷ line_values x ∷ [])) (with_key 2) ≡ (x.no == n)
-unfolding binary
-passes_3 n x = ap (λ b. is_true (from_truth (Some b)) && true) (same_int x.no n) ∙ truth_of (x.no == n)
-
-no_work_3 : (b : Bool) (olds : List Row) → works (archive_schema b) Enforced 0 3 olds [] ≡ []
-unfolding same_name joined
-no_work_3 false olds = refl
-no_work_3 true olds = refl
-
-pub deletes_lines : (old new : State) (n count : ℕ) (b : Bool) → old.now.schema ≡ archive_schema b
-    → Executes delete_lines (Int (pos n) ∷ []) old new (Ok count) → Becomes b old new (without_lines n)
-deletes_lines old new n count b has h =
-    let params = Int (pos n) ∷ [] in
-    let q : Program = record { lets = []; body = simple 3 (with_key 2) (col 1 0 ∷ []) [] } in
-    let w = runs_as delete_lines params old new (archive_schema b) has (Delete 3 q) (delete_lines_is b)
-    (delete_lines_plain b) count h in
-    let did = deletes (archive_schema b) lines 3 refl refl old new.now w.tally params
-    (statement_of delete_lines (understood (archive_schema b) delete_lines)) q has w.changed in
-    let found = did.1 in
-    let db = old.now.trees in
-    let now = new.now.trees in
-    let edit = edit_of db lines (ids_of found) Given 0 [] in
-    let applied = one_step (archive_schema b) Enforced db now edit (no_work_3 b (taken_by db edit)) did.3 in
-    let same = others_of b db now edit applied in
-    becomes b old new w.sound did.0 (λ _. refl) (λ rows was.
-    let all = answered line_values params (with_key 2) (λ x. x.no == n) (passes_3 n) 3 (col 1 0 ∷ []) []
-    (overlay db []) rows.lines found was.lines.is (did.2.answer Null) in
-    let ids : IsPermutation
-    (map (λ x. pos ((λ (l : LineRow). l.id) x)) (filter (λ (x : LineRow). x.no == n) rows.lines)) (ids_of found) =
-    subst (λ k. IsPermutation k (ids_of found)) (map_map _ _ (filter (λ (x : LineRow). x.no == n) rows.lines))
-    (IsPermutation-map (λ r. id_in (rowid r)) _ _ all) in
-    record {
-      meta = same 0 (omega arith) (omega arith) ∙ was.meta;
-      batches = keeps_on _ _ _ (same 1 (omega arith) (omega arith)) was.batches;
-      records = keeps_on _ _ _ (same 2 (omega arith) (omega arith)) was.records;
-      lines = keeps_on _ _ (now 3) applied.rows
-          (keeps_less line_values (λ (l : LineRow). l.id) (λ _. refl) (λ x. x.no == n) rows.lines (db 3)
-          (ids_of found) ids was.lines);
-      receipts = keeps_on _ _ _ (same 4 (omega arith) (omega arith)) was.receipts;
-      slips = keeps_on _ _ _ (same 5 (omega arith) (omega arith)) was.slips;
-      slip_lines = keeps_on _ _ _ (same 6 (omega arith) (omega arith)) was.slip_lines;
-      later = later_on b rows db now edit applied (omega arith) was.later;
-    })
 
 passes_6 : (n : ℕ) (x : SlipLineRow) → list_all (holds ((Int (pos n) ∷ []) ∷ slip_line_values x ∷ []))
     (with_key 2) ≡ (x.slip == n)
@@ -535,9 +439,11 @@ pub deletes_slip_lines : (old new : State) (n count : ℕ) (b : Bool) → old.no
 deletes_slip_lines old new n count b has h =
     let params = Int (pos n) ∷ [] in
     let q : Program = record { lets = []; body = simple 6 (with_key 2) (col 1 0 ∷ []) [] } in
-    let w = runs_as delete_slip_lines params old new (archive_schema b) has (Delete 6 q) (delete_slip_lines_is b)
+    let w = runs_as delete_slip_lines params old new (archive_schema b) has (Delete (slip_lines_place b) q)
+    (delete_slip_lines_is b)
     (delete_slip_lines_plain b) count h in
-    let did = deletes (archive_schema b) slip_lines 6 refl refl old new.now w.tally params
+    let did = deletes (archive_schema b) slip_lines (slip_lines_place b) (slip_lines_listed b)
+    refl old new.now w.tally params
     (statement_of delete_slip_lines (understood (archive_schema b) delete_slip_lines)) q has w.changed in
     let found = did.1 in
     let db = old.now.trees in
@@ -545,7 +451,7 @@ deletes_slip_lines old new n count b has h =
     let edit = edit_of db slip_lines (ids_of found) Given 0 [] in
     let applied = one_step (archive_schema b) Enforced db now edit (no_work_6 b (taken_by db edit)) did.3 in
     let same = others_of b db now edit applied in
-    becomes b old new w.sound did.0 (λ _. refl) (λ rows was.
+    becomes b old new w.sound did.0 (λ _. refl) (λ rows fits was.
     let all = answered slip_line_values params (with_key 2) (λ x. x.slip == n) (passes_6 n) 6 (col 1 0 ∷ []) []
     (overlay db []) rows.slip_lines found was.slip_lines.is (did.2.answer Null) in
     let ids : IsPermutation
@@ -558,13 +464,12 @@ deletes_slip_lines old new n count b has h =
       meta = same 0 (omega arith) (omega arith) ∙ was.meta;
       batches = keeps_on _ _ _ (same 1 (omega arith) (omega arith)) was.batches;
       records = keeps_on _ _ _ (same 2 (omega arith) (omega arith)) was.records;
-      lines = keeps_on _ _ _ (same 3 (omega arith) (omega arith)) was.lines;
       receipts = keeps_on _ _ _ (same 4 (omega arith) (omega arith)) was.receipts;
       slips = keeps_on _ _ _ (same 5 (omega arith) (omega arith)) was.slips;
       slip_lines = keeps_on _ _ (now 6) applied.rows
           (keeps_less slip_line_values (λ (s : SlipLineRow). s.id) (λ _. refl) (λ x. x.slip == n) rows.slip_lines (db 6)
           (ids_of found) ids was.slip_lines);
-      later = later_on b rows db now edit applied (omega arith) was.later;
+      own = own_on b rows db now edit applied (omega arith) (omega arith) fits was.own;
     })
 
 passes_2 : (n : ℕ) (x : RecordRow) → list_all (holds ((Int (pos n) ∷ []) ∷ record_values x ∷ []))
@@ -582,19 +487,18 @@ two_refuse : (b : Bool) (v w : Work) → Restrict v → Restrict w → AllByRecu
 two_refuse true v w p q = (p, (q, tt))
 two_refuse false v w p q = tt
 
-four_refuse : (b : Bool) (v w x y : Work) → Restrict v → Restrict w → Restrict x → Restrict y
-    → AllByRecursion Restrict
-    (cons_option (if b then Some v else None) (cons_option (if b then Some w else None) [])
-    ++ (cons_option (if b then Some x else None) [] ++ (cons_option (if b then Some y else None) [] ++ [])))
-four_refuse true v w x y p q r s = (p, (q, (r, (s, tt))))
-four_refuse false v w x y p q r s = tt
+three_refuse : (b : Bool) (v w x : Work) → Restrict v → Restrict w → Restrict x → AllByRecursion Restrict
+    (cons_option (if b then Some v else None) []
+    ++ (cons_option (if b then Some w else None) [] ++ (cons_option (if b then Some x else None) [] ++ [])))
+three_refuse true v w x p q r = (p, (q, (r, tt)))
+three_refuse false v w x p q r = tt
 
 -- what refers to a record, or to a slip, restricts its deletion
 pub only_restricted : (b : Bool) (olds : List Row)
     → AllByRecursion Restrict (works (archive_schema b) Enforced 0 2 olds [])
 unfolding same_name joined
 only_restricted false olds = two_refuse _ _ _ refl refl
-only_restricted true olds = four_refuse _ _ _ _ _ refl refl refl refl
+only_restricted true olds = three_refuse _ _ _ _ refl refl refl
 
 pub only_restricted_slips : (b : Bool) (olds : List Row)
     → AllByRecursion Restrict (works (archive_schema b) Enforced 0 5 olds [])
@@ -618,7 +522,7 @@ deletes_record old new n count b has h =
     let applied = restricted_step (archive_schema b) Enforced db now edit (only_restricted b (taken_by db edit)) did.3
     in
     let same = others_of b db now edit applied in
-    becomes b old new w.sound did.0 (λ _. refl) (λ rows was.
+    becomes b old new w.sound did.0 (λ _. refl) (λ rows fits was.
     let all = answered record_values params (with_key 0) (λ x. x.no == n) (passes_2 n) 2 (col 1 0 ∷ []) []
     (overlay db []) rows.records found was.records.is (did.2.answer Null) in
     let ids : IsPermutation
@@ -632,11 +536,10 @@ deletes_record old new n count b has h =
       records = keeps_on _ _ (now 2) applied.rows
           (keeps_less record_values (λ (r : RecordRow). r.no) (λ _. refl) (λ x. x.no == n) rows.records (db 2)
           (ids_of found) ids was.records);
-      lines = keeps_on _ _ _ (same 3 (omega arith) (omega arith)) was.lines;
       receipts = keeps_on _ _ _ (same 4 (omega arith) (omega arith)) was.receipts;
       slips = keeps_on _ _ _ (same 5 (omega arith) (omega arith)) was.slips;
       slip_lines = keeps_on _ _ _ (same 6 (omega arith) (omega arith)) was.slip_lines;
-      later = later_on b rows db now edit applied (omega arith) was.later;
+      own = own_on b rows db now edit applied (omega arith) (omega arith) fits was.own;
     })
 
 -- ---- UPDATE of the one row of meta
@@ -657,7 +560,7 @@ sets_next old new n count b has h =
     let rows = did.1 in
     let db = old.now.trees in
     let now = new.now.trees in
-    becomes b old new w.sound did.0 (λ _. refl) (λ c was.
+    becomes b old new w.sound did.0 (λ _. refl) (λ c fits was.
     let found : IsPermutation
     ((Int (pos 1) ∷ Int (pos 1) ∷ Null ∷ Int (pos c.version) ∷ Int (pos n) ∷ Text c.society ∷ []) ∷ []) rows =
     answered meta_values params [] (λ _. true) (λ _. refl) 0 project [] (overlay db []) (c ∷ []) rows was.meta
@@ -675,11 +578,10 @@ sets_next old new n count b has h =
           was.meta ∙ ap (put_row (meta_values (with_next n c))) (only_one c);
       batches = keeps_on _ _ _ (same 1 (omega arith) (omega arith)) was.batches;
       records = keeps_on _ _ _ (same 2 (omega arith) (omega arith)) was.records;
-      lines = keeps_on _ _ _ (same 3 (omega arith) (omega arith)) was.lines;
       receipts = keeps_on _ _ _ (same 4 (omega arith) (omega arith)) was.receipts;
       slips = keeps_on _ _ _ (same 5 (omega arith) (omega arith)) was.slips;
       slip_lines = keeps_on _ _ _ (same 6 (omega arith) (omega arith)) was.slip_lines;
-      later = later_on b c db now edit applied (omega arith) was.later;
+      own = own_on b c db now edit applied (omega arith) (omega arith) fits was.own;
     })
 
 -- ---- the first row, in a store whose tables have none
@@ -711,10 +613,9 @@ inserts_meta old new society count has empty h =
         meta = applied.rows ∙ row ∙ ap (put_row (meta_values (bare_first society))) (empty 0 (omega arith));
         batches = record { is = each 1 (omega arith) (omega arith); rise = tt };
         records = record { is = each 2 (omega arith) (omega arith); rise = tt };
-        lines = record { is = each 3 (omega arith) (omega arith); rise = tt };
         receipts = record { is = each 4 (omega arith) (omega arith); rise = tt };
         slips = record { is = each 5 (omega arith) (omega arith); rise = tt };
         slip_lines = record { is = each 6 (omega arith) (omega arith); rise = tt };
-        later = (refl, refl, refl);
+        own = (record { is = each 3 (omega arith) (omega arith); rise = tt }, refl, refl, refl, refl);
       },
     )

@@ -1,5 +1,5 @@
 -- What each text of SQL means under the schema of an archive, as computing finds it.
-use Rattle.std.proofs.Common.{◌≡◌, ℕ, pos, List, [], ◌∷◌, codes, false, Ok, refl, Bool}
+use Rattle.std.proofs.Common.{◌≡◌, ℕ, pos, List, [], ◌∷◌, codes, true, false, slice_get, Some, Ok, refl, Bool}
 use Rattle.sqlite.specs.declared.types.Value.TheVariants.{Null, Int}
 use Rattle.sqlite.specs.Term.{Term, lit, col, op2}
 use Rattle.sqlite_sql.specs.declared.ops.BinaryOp.TheVariants.{Compare}
@@ -131,9 +131,6 @@ insert_record = codes "INSERT INTO record (no, kind, batch) VALUES (?1, ?2, ?3)"
 abbrev pub delete_record : List ℕ
 delete_record = codes "DELETE FROM record WHERE no = ?1"
 
-abbrev pub insert_line : List ℕ
-insert_line = codes "INSERT INTO line (no, pos, depth, tag, text, dst) VALUES (?1, ?2, ?3, ?4, ?5, ?6)"
-
 abbrev pub delete_lines : List ℕ
 delete_lines = codes "DELETE FROM line WHERE no = ?1"
 
@@ -152,11 +149,46 @@ select_batches = codes "SELECT no, is_open FROM batch ORDER BY no"
 abbrev pub select_records : List ℕ
 select_records = codes "SELECT no, batch FROM record ORDER BY no"
 
-abbrev pub select_lines : List ℕ
-select_lines = codes "SELECT no, depth, tag, text, dst FROM line ORDER BY id"
-
 abbrev pub select_receipts : List ℕ
 select_receipts = codes "SELECT token, digest, first, count FROM receipt ORDER BY id"
+
+-- where the tables stand that do not stand at one place of both schemas
+abbrev pub receipts_place : Bool → ℕ
+receipts_place false = 4
+receipts_place true = 3
+
+abbrev pub slips_place : Bool → ℕ
+slips_place false = 5
+slips_place true = 4
+
+abbrev pub slip_lines_place : Bool → ℕ
+slip_lines_place false = 6
+slip_lines_place true = 5
+
+pub receipts_listed : (b : Bool) → slice_get (archive_schema b).tables (receipts_place b) ≡ Some receipts
+receipts_listed false = refl
+receipts_listed true = refl
+
+pub slips_listed : (b : Bool) → slice_get (archive_schema b).tables (slips_place b) ≡ Some slips
+slips_listed false = refl
+slips_listed true = refl
+
+pub slip_lines_listed : (b : Bool) → slice_get (archive_schema b).tables (slip_lines_place b) ≡ Some slip_lines
+slip_lines_listed false = refl
+slip_lines_listed true = refl
+
+-- the table of lines: its place, its tree, and where a row has the number of the record
+abbrev pub lines_place : Bool → ℕ
+lines_place false = 3
+lines_place true = 6
+
+abbrev pub lines_tree : Bool → ℕ
+lines_tree false = 3
+lines_tree true = 11
+
+abbrev pub number_column : Bool → ℕ
+number_column false = 2
+number_column true = 0
 
 abbrev pub with_key : ℕ → List Term
 with_key place = op2 (Compare Eq Binary) (col 1 place) (col 0 0) ∷ []
@@ -200,23 +232,16 @@ pub delete_record_plain : (b : Bool) → IsPlain (understood (archive_schema b) 
 unfolding understood everything
 delete_record_plain b = (refl, refl)
 
-pub insert_line_is : (b : Bool) → command_of (understood (archive_schema b) insert_line) ≡ Insert 3
-    (Values (lit Null ∷ lit Null ∷ col 0 0 ∷ col 0 1 ∷ col 0 2 ∷ col 0 3 ∷ col 0 4 ∷ col 0 5 ∷ []) 8)
+pub delete_lines_is : (b : Bool) → command_of (understood (archive_schema b) delete_lines) ≡ Delete (lines_place b)
+    (record { lets = []; body = simple (lines_tree b) (with_key (number_column b)) (col 1 0 ∷ []) [] })
 unfolding understood everything
-insert_line_is b = refl
-
-pub insert_line_plain : (b : Bool) → IsPlain (understood (archive_schema b) insert_line)
-unfolding understood everything
-insert_line_plain b = (refl, refl)
-
-pub delete_lines_is : (b : Bool) → command_of (understood (archive_schema b) delete_lines) ≡ Delete 3
-    (record { lets = []; body = simple 3 (with_key 2) (col 1 0 ∷ []) [] })
-unfolding understood everything
-delete_lines_is b = refl
+delete_lines_is false = refl
+delete_lines_is true = refl
 
 pub delete_lines_plain : (b : Bool) → IsPlain (understood (archive_schema b) delete_lines)
 unfolding understood everything
-delete_lines_plain b = (refl, refl)
+delete_lines_plain false = (refl, refl)
+delete_lines_plain true = (refl, refl)
 
 pub set_next_is : (b : Bool) → command_of (understood (archive_schema b) set_next) ≡ Update 0
     (record { lets = []; body = simple 0 [] (col 1 0 ∷ col 1 0 ∷ lit Null ∷ col 1 2 ∷ col 0 0 ∷ col 1 4 ∷ []) [] })
@@ -227,14 +252,17 @@ pub set_next_plain : (b : Bool) → IsPlain (understood (archive_schema b) set_n
 unfolding understood everything
 set_next_plain b = (refl, refl)
 
-pub insert_receipt_is : (b : Bool) → command_of (understood (archive_schema b) insert_receipt) ≡ Insert 4
+pub insert_receipt_is : (b : Bool) → command_of (understood (archive_schema b) insert_receipt) ≡
+    Insert (receipts_place b)
     (Values (lit Null ∷ lit Null ∷ col 0 0 ∷ col 0 1 ∷ col 0 2 ∷ col 0 3 ∷ []) 6)
 unfolding understood everything
-insert_receipt_is b = refl
+insert_receipt_is false = refl
+insert_receipt_is true = refl
 
 pub insert_receipt_plain : (b : Bool) → IsPlain (understood (archive_schema b) insert_receipt)
 unfolding understood everything
-insert_receipt_plain b = (refl, refl)
+insert_receipt_plain false = (refl, refl)
+insert_receipt_plain true = (refl, refl)
 
 pub select_meta_is : (b : Bool) → command_of (understood (archive_schema b) select_meta) ≡ Select
     (record { lets = []; body = simple 0 [] (col 1 2 ∷ col 1 3 ∷ col 1 4 ∷ []) [] })
@@ -276,33 +304,22 @@ pub select_records_unlisted : (b : Bool) → reads_listing (archive_schema b) se
 unfolding understood everything
 select_records_unlisted b = refl
 
-pub select_lines_is : (b : Bool) → command_of (understood (archive_schema b) select_lines) ≡ Select
-    (record { lets = []; body = simple 3 [] (col 1 2 ∷ col 1 4 ∷ col 1 5 ∷ col 1 6 ∷ col 1 7 ∷ []) by_key })
-    (codes "no" ∷ codes "depth" ∷ codes "tag" ∷ codes "text" ∷ codes "dst" ∷ [])
-unfolding understood everything
-select_lines_is b = refl
-
-pub select_lines_plain : (b : Bool) → IsPlain (understood (archive_schema b) select_lines)
-unfolding understood everything
-select_lines_plain b = (refl, refl)
-
-pub select_lines_unlisted : (b : Bool) → reads_listing (archive_schema b) select_lines ≡ false
-unfolding understood everything
-select_lines_unlisted b = refl
-
 pub select_receipts_is : (b : Bool) → command_of (understood (archive_schema b) select_receipts) ≡ Select
     (record { lets = []; body = simple 4 [] (col 1 2 ∷ col 1 3 ∷ col 1 4 ∷ col 1 5 ∷ []) by_key })
     (codes "token" ∷ codes "digest" ∷ codes "first" ∷ codes "count" ∷ [])
 unfolding understood everything
-select_receipts_is b = refl
+select_receipts_is false = refl
+select_receipts_is true = refl
 
 pub select_receipts_plain : (b : Bool) → IsPlain (understood (archive_schema b) select_receipts)
 unfolding understood everything
-select_receipts_plain b = (refl, refl)
+select_receipts_plain false = (refl, refl)
+select_receipts_plain true = (refl, refl)
 
 pub select_receipts_unlisted : (b : Bool) → reads_listing (archive_schema b) select_receipts ≡ false
 unfolding understood everything
-select_receipts_unlisted b = refl
+select_receipts_unlisted false = refl
+select_receipts_unlisted true = refl
 
 abbrev pub update_record : List ℕ
 update_record = codes "UPDATE record SET kind = ?2, batch = ?3 WHERE no = ?1"
@@ -319,56 +336,66 @@ update_record_plain b = (refl, refl)
 abbrev pub insert_slip : List ℕ
 insert_slip = codes "INSERT INTO slip (no, keep, gone, undone) VALUES (?1, ?2, ?3, ?4)"
 
-pub insert_slip_is : (b : Bool) → command_of (understood (archive_schema b) insert_slip) ≡ Insert 5
+pub insert_slip_is : (b : Bool) → command_of (understood (archive_schema b) insert_slip) ≡ Insert (slips_place b)
     (Values (col 0 0 ∷ lit Null ∷ col 0 1 ∷ col 0 2 ∷ col 0 3 ∷ []) 5)
 unfolding understood everything
-insert_slip_is b = refl
+insert_slip_is false = refl
+insert_slip_is true = refl
 
 pub insert_slip_plain : (b : Bool) → IsPlain (understood (archive_schema b) insert_slip)
 unfolding understood everything
-insert_slip_plain b = (refl, refl)
+insert_slip_plain false = (refl, refl)
+insert_slip_plain true = (refl, refl)
 
 abbrev pub undo_slip : List ℕ
 undo_slip = codes "UPDATE slip SET undone = 1 WHERE no = ?1"
 
-pub undo_slip_is : (b : Bool) → command_of (understood (archive_schema b) undo_slip) ≡ Update 5
+pub undo_slip_is : (b : Bool) → command_of (understood (archive_schema b) undo_slip) ≡ Update (slips_place b)
     (record {
       lets = [];
       body = simple 5 (with_key 0)
           (col 1 0 ∷ col 1 0 ∷ lit Null ∷ col 1 2 ∷ col 1 3 ∷ lit (Int (pos 1)) ∷ []) [];
     })
 unfolding understood everything
-undo_slip_is b = refl
+undo_slip_is false = refl
+undo_slip_is true = refl
 
 pub undo_slip_plain : (b : Bool) → IsPlain (understood (archive_schema b) undo_slip)
 unfolding understood everything
-undo_slip_plain b = (refl, refl)
+undo_slip_plain false = (refl, refl)
+undo_slip_plain true = (refl, refl)
 
 abbrev pub insert_slip_line : List ℕ
 insert_slip_line = codes
     "INSERT INTO slip_line (slip, side, no, pos, depth, tag, text, dst) VALUES (?1, ?2, ?3, ?4, ?5, ?6, ?7, ?8)"
 
-pub insert_slip_line_is : (b : Bool) → command_of (understood (archive_schema b) insert_slip_line) ≡ Insert 6
+pub insert_slip_line_is : (b : Bool) → command_of (understood (archive_schema b) insert_slip_line) ≡
+    Insert (slip_lines_place b)
     (Values (lit Null ∷ lit Null ∷ col 0 0 ∷ col 0 1 ∷ col 0 2 ∷ col 0 3 ∷ col 0 4 ∷ col 0 5 ∷ col 0 6 ∷ col 0 7 ∷ [])
     10)
 unfolding understood everything
-insert_slip_line_is b = refl
+insert_slip_line_is false = refl
+insert_slip_line_is true = refl
 
 pub insert_slip_line_plain : (b : Bool) → IsPlain (understood (archive_schema b) insert_slip_line)
 unfolding understood everything
-insert_slip_line_plain b = (refl, refl)
+insert_slip_line_plain false = (refl, refl)
+insert_slip_line_plain true = (refl, refl)
 
 abbrev pub delete_slip_lines : List ℕ
 delete_slip_lines = codes "DELETE FROM slip_line WHERE slip = ?1"
 
-pub delete_slip_lines_is : (b : Bool) → command_of (understood (archive_schema b) delete_slip_lines) ≡ Delete 6
+pub delete_slip_lines_is : (b : Bool) → command_of (understood (archive_schema b) delete_slip_lines) ≡
+    Delete (slip_lines_place b)
     (record { lets = []; body = simple 6 (with_key 2) (col 1 0 ∷ []) [] })
 unfolding understood everything
-delete_slip_lines_is b = refl
+delete_slip_lines_is false = refl
+delete_slip_lines_is true = refl
 
 pub delete_slip_lines_plain : (b : Bool) → IsPlain (understood (archive_schema b) delete_slip_lines)
 unfolding understood everything
-delete_slip_lines_plain b = (refl, refl)
+delete_slip_lines_plain false = (refl, refl)
+delete_slip_lines_plain true = (refl, refl)
 
 abbrev pub select_slips : List ℕ
 select_slips = codes "SELECT no, keep, gone, undone FROM slip ORDER BY no"
@@ -377,15 +404,18 @@ pub select_slips_is : (b : Bool) → command_of (understood (archive_schema b) s
     (record { lets = []; body = simple 5 [] (col 1 0 ∷ col 1 2 ∷ col 1 3 ∷ col 1 4 ∷ []) by_key })
     (codes "no" ∷ codes "keep" ∷ codes "gone" ∷ codes "undone" ∷ [])
 unfolding understood everything
-select_slips_is b = refl
+select_slips_is false = refl
+select_slips_is true = refl
 
 pub select_slips_plain : (b : Bool) → IsPlain (understood (archive_schema b) select_slips)
 unfolding understood everything
-select_slips_plain b = (refl, refl)
+select_slips_plain false = (refl, refl)
+select_slips_plain true = (refl, refl)
 
 pub select_slips_unlisted : (b : Bool) → reads_listing (archive_schema b) select_slips ≡ false
 unfolding understood everything
-select_slips_unlisted b = refl
+select_slips_unlisted false = refl
+select_slips_unlisted true = refl
 
 abbrev pub select_slip_lines : List ℕ
 select_slip_lines = codes "SELECT slip, side, no, depth, tag, text, dst FROM slip_line ORDER BY id"
@@ -397,12 +427,15 @@ pub select_slip_lines_is : (b : Bool) → command_of (understood (archive_schema
           by_key;
     }) (codes "slip" ∷ codes "side" ∷ codes "no" ∷ codes "depth" ∷ codes "tag" ∷ codes "text" ∷ codes "dst" ∷ [])
 unfolding understood everything
-select_slip_lines_is b = refl
+select_slip_lines_is false = refl
+select_slip_lines_is true = refl
 
 pub select_slip_lines_plain : (b : Bool) → IsPlain (understood (archive_schema b) select_slip_lines)
 unfolding understood everything
-select_slip_lines_plain b = (refl, refl)
+select_slip_lines_plain false = (refl, refl)
+select_slip_lines_plain true = (refl, refl)
 
 pub select_slip_lines_unlisted : (b : Bool) → reads_listing (archive_schema b) select_slip_lines ≡ false
 unfolding understood everything
-select_slip_lines_unlisted b = refl
+select_slip_lines_unlisted false = refl
+select_slip_lines_unlisted true = refl

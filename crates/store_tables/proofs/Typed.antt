@@ -36,7 +36,6 @@ use Rattle.store_tables.specs.Rows.{
   with_record_row,
   record_at,
   without_record_row,
-  with_line,
   without_lines,
   with_receipt,
   with_next,
@@ -68,6 +67,7 @@ typed_next n rows t = record {
   batches = t.batches;
   records = t.records;
   lines = t.lines;
+  packs = t.packs;
   receipts = t.receipts;
   slips = t.slips;
   slip_lines = t.slip_lines;
@@ -86,6 +86,7 @@ typed_batch n is_open low rows t =
       batches = put_all _ (λ (b : BatchRow). b.no) _ rows.batches low t.batches;
       records = t.records;
       lines = t.lines;
+      packs = t.packs;
       receipts = t.receipts;
       slips = t.slips;
       slip_lines = t.slip_lines;
@@ -111,6 +112,7 @@ typed_closed n rows t = record {
   batches = closed_all n rows.batches t.batches;
   records = t.records;
   lines = t.lines;
+  packs = t.packs;
   receipts = t.receipts;
   slips = t.slips;
   slip_lines = t.slip_lines;
@@ -127,6 +129,7 @@ typed_less_batch n rows t = record {
   batches = kept_by _ _ rows.batches t.batches;
   records = t.records;
   lines = t.lines;
+  packs = t.packs;
   receipts = t.receipts;
   slips = t.slips;
   slip_lines = t.slip_lines;
@@ -143,6 +146,7 @@ typed_less_lines_from n at rows t = record {
   batches = t.batches;
   records = t.records;
   lines = kept_by _ _ rows.lines t.lines;
+  packs = kept_by _ _ rows.packs t.packs;
   receipts = t.receipts;
   slips = t.slips;
   slip_lines = t.slip_lines;
@@ -160,6 +164,7 @@ typed_record n kind batch low first rows t = record {
   batches = t.batches;
   records = put_all _ (λ (r : RecordRow). r.no) _ rows.records (low, first) t.records;
   lines = t.lines;
+  packs = t.packs;
   receipts = t.receipts;
   slips = t.slips;
   slip_lines = t.slip_lines;
@@ -189,6 +194,7 @@ typed_record_at n kind batch low rows t = record {
   batches = t.batches;
   records = record_all n kind batch low rows.records t.records;
   lines = t.lines;
+  packs = t.packs;
   receipts = t.receipts;
   slips = t.slips;
   slip_lines = t.slip_lines;
@@ -205,23 +211,7 @@ typed_less_record n rows t = record {
   batches = t.batches;
   records = kept_by _ _ rows.records t.records;
   lines = t.lines;
-  receipts = t.receipts;
-  slips = t.slips;
-  slip_lines = t.slip_lines;
-  spans = t.spans;
-  links = t.links;
-  soughts = t.soughts;
-}
-
-pub typed_line : (n at : ℕ) (line : ℕ × Label) → IsU32 n → IsTypedLine line → (rows : Rows) → AreTyped rows
-    → AreTyped (with_line n at line rows)
-typed_line n at line low is rows t = record {
-  version = t.version;
-  dated = t.dated;
-  society = t.society;
-  batches = t.batches;
-  records = t.records;
-  lines = all_then _ rows.lines _ t.lines (low, is);
+  packs = t.packs;
   receipts = t.receipts;
   slips = t.slips;
   slip_lines = t.slip_lines;
@@ -238,6 +228,7 @@ typed_less_lines n rows t = record {
   batches = t.batches;
   records = t.records;
   lines = kept_by _ _ rows.lines t.lines;
+  packs = kept_by _ _ rows.packs t.packs;
   receipts = t.receipts;
   slips = t.slips;
   slip_lines = t.slip_lines;
@@ -255,6 +246,7 @@ typed_receipt token receipt is kept rows t = record {
   batches = t.batches;
   records = t.records;
   lines = t.lines;
+  packs = t.packs;
   receipts = all_then _ rows.receipts _ t.receipts (is, kept);
   slips = t.slips;
   slip_lines = t.slip_lines;
@@ -272,6 +264,7 @@ typed_slip n keep gone is_undone a b c rows t = record {
   batches = t.batches;
   records = t.records;
   lines = t.lines;
+  packs = t.packs;
   receipts = t.receipts;
   slips = put_all IsTypedSlip (λ (s : SlipRow). s.no) _ rows.slips
       (a, b, c) t.slips;
@@ -298,6 +291,7 @@ typed_undone n rows t = record {
   batches = t.batches;
   records = t.records;
   lines = t.lines;
+  packs = t.packs;
   receipts = t.receipts;
   slips = undone_all n rows.slips t.slips;
   slip_lines = t.slip_lines;
@@ -315,6 +309,7 @@ typed_slip_line slip is_new n at line a b is rows t = record {
   batches = t.batches;
   records = t.records;
   lines = t.lines;
+  packs = t.packs;
   receipts = t.receipts;
   slips = t.slips;
   slip_lines = all_then _ rows.slip_lines _ t.slip_lines (a, b, is);
@@ -331,6 +326,7 @@ typed_less_slip_lines n rows t = record {
   batches = t.batches;
   records = t.records;
   lines = t.lines;
+  packs = t.packs;
   receipts = t.receipts;
   slips = t.slips;
   slip_lines = kept_by _ _ rows.slip_lines t.slip_lines;

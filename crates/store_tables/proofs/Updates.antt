@@ -57,6 +57,8 @@ use Rattle.store_tables.specs.Rows.{
 }
 use Rattle.store_tables.proofs.Texts.{
   with_key,
+  slips_place,
+  slips_listed,
   update_record,
   update_record_is,
   update_record_plain,
@@ -73,7 +75,7 @@ use Rattle.store_tables.proofs.Statements.{
   becomes,
   no_work,
   others_of,
-  later_on,
+  own_on,
   only_restricted,
   only_restricted_slips,
   truth_of,
@@ -114,7 +116,7 @@ updates_record old new n kind batch count b has h =
     let found = (λ (rows : Rows) (was : Holds rows db). answered record_values params (with_key 0) (λ x. x.no == n)
     (passes_2 (Text kind ∷ Int (pos batch) ∷ []) n) 2 project [] (overlay db []) rows.records read was.records.is
     (did.2.answer Null)) in (
-      becomes b old new w.sound did.0 (λ _. refl) (λ rows was.
+      becomes b old new w.sound did.0 (λ _. refl) (λ rows fits was.
           elim (at_key key n rows.records was.records.rise) [
             | inl none ↦
                 let empty : read ≡ [] = permutation_none read
@@ -130,11 +132,10 @@ updates_record old new n kind batch count b has h =
                   batches = keeps_on _ _ _ (same 1 (omega arith) (omega arith)) was.batches;
                   records = subst (λ xs. Keeps record_values key xs (now 2))
                       (sym (none_changed key n g rows.records none)) (keeps_on _ _ (now 2) applied.rows was.records);
-                  lines = keeps_on _ _ _ (same 3 (omega arith) (omega arith)) was.lines;
                   receipts = keeps_on _ _ _ (same 4 (omega arith) (omega arith)) was.receipts;
                   slips = keeps_on _ _ _ (same 5 (omega arith) (omega arith)) was.slips;
                   slip_lines = keeps_on _ _ _ (same 6 (omega arith) (omega arith)) was.slip_lines;
-                  later = later_on b rows db now edit applied (omega arith) was.later;
+                  own = own_on b rows db now edit applied (omega arith) (omega arith) fits was.own;
                 }
             | inr (x, one, here) ↦
                 let single : read ≡ shown x ∷ [] = one_permutation _ read
@@ -153,11 +154,10 @@ updates_record old new n kind batch count b has h =
                   batches = keeps_on _ _ _ (same 1 (omega arith) (omega arith)) was.batches;
                   records = keeps_on _ _ (now 2) (applied.rows ∙ row ∙ away)
                       (keeps_changed record_values key (λ _. refl) n g x rows.records (db 2) one here here was.records);
-                  lines = keeps_on _ _ _ (same 3 (omega arith) (omega arith)) was.lines;
                   receipts = keeps_on _ _ _ (same 4 (omega arith) (omega arith)) was.receipts;
                   slips = keeps_on _ _ _ (same 5 (omega arith) (omega arith)) was.slips;
                   slip_lines = keeps_on _ _ _ (same 6 (omega arith) (omega arith)) was.slip_lines;
-                  later = later_on b rows db now edit applied (omega arith) was.later;
+                  own = own_on b rows db now edit applied (omega arith) (omega arith) fits was.own;
                 }
           ]),
       λ rows was. elim (at_key key n rows.records was.records.rise) [
@@ -185,9 +185,10 @@ undoes_slip old new n count b has h =
     let params = Int (pos n) ∷ [] in
     let project = col 1 0 ∷ col 1 0 ∷ lit Null ∷ col 1 2 ∷ col 1 3 ∷ lit (Int (pos 1)) ∷ [] in
     let q : Program = record { lets = []; body = simple 5 (with_key 0) project [] } in
-    let w = runs_as undo_slip params old new (archive_schema b) has (Update 5 q) (undo_slip_is b) (undo_slip_plain b)
+    let w = runs_as undo_slip params old new (archive_schema b) has (Update (slips_place b) q) (undo_slip_is b)
+    (undo_slip_plain b)
     count h in
-    let did = updates (archive_schema b) slips 5 refl refl old new.now w.tally params
+    let did = updates (archive_schema b) slips (slips_place b) (slips_listed b) refl old new.now w.tally params
     (statement_of undo_slip (understood (archive_schema b) undo_slip)) q has w.changed in
     let read = did.1 in
     let db = old.now.trees in
@@ -199,7 +200,7 @@ undoes_slip old new n count b has h =
     ∙ ap (λ o. unwrap_or o 0) did.4 in
     let found = (λ (rows : Rows) (was : Holds rows db). answered slip_values params (with_key 0) (λ x. x.no == n)
     (passes_5 [] n) 5 project [] (overlay db []) rows.slips read was.slips.is (did.2.answer Null)) in (
-      becomes b old new w.sound did.0 (λ _. refl) (λ rows was.
+      becomes b old new w.sound did.0 (λ _. refl) (λ rows fits was.
           elim (at_key key n rows.slips was.slips.rise) [
             | inl none ↦
                 let empty : read ≡ [] = permutation_none read
@@ -214,12 +215,11 @@ undoes_slip old new n count b has h =
                   meta = same 0 (omega arith) (omega arith) ∙ was.meta;
                   batches = keeps_on _ _ _ (same 1 (omega arith) (omega arith)) was.batches;
                   records = keeps_on _ _ _ (same 2 (omega arith) (omega arith)) was.records;
-                  lines = keeps_on _ _ _ (same 3 (omega arith) (omega arith)) was.lines;
                   receipts = keeps_on _ _ _ (same 4 (omega arith) (omega arith)) was.receipts;
                   slips = subst (λ xs. Keeps slip_values key xs (now 5)) (sym (none_changed key n g rows.slips none))
                       (keeps_on _ _ (now 5) applied.rows was.slips);
                   slip_lines = keeps_on _ _ _ (same 6 (omega arith) (omega arith)) was.slip_lines;
-                  later = later_on b rows db now edit applied (omega arith) was.later;
+                  own = own_on b rows db now edit applied (omega arith) (omega arith) fits was.own;
                 }
             | inr (x, one, here) ↦
                 let single : read ≡ shown x ∷ [] = one_permutation _ read
@@ -242,12 +242,11 @@ undoes_slip old new n count b has h =
                   meta = same 0 (omega arith) (omega arith) ∙ was.meta;
                   batches = keeps_on _ _ _ (same 1 (omega arith) (omega arith)) was.batches;
                   records = keeps_on _ _ _ (same 2 (omega arith) (omega arith)) was.records;
-                  lines = keeps_on _ _ _ (same 3 (omega arith) (omega arith)) was.lines;
                   receipts = keeps_on _ _ _ (same 4 (omega arith) (omega arith)) was.receipts;
                   slips = keeps_on _ _ (now 5) (applied.rows ∙ row ∙ away)
                       (keeps_changed slip_values key (λ _. refl) n g x rows.slips (db 5) one here here was.slips);
                   slip_lines = keeps_on _ _ _ (same 6 (omega arith) (omega arith)) was.slip_lines;
-                  later = later_on b rows db now edit applied (omega arith) was.later;
+                  own = own_on b rows db now edit applied (omega arith) (omega arith) fits was.own;
                 }
           ]),
       λ rows was. elim (at_key key n rows.slips was.slips.rise) [

@@ -1,5 +1,5 @@
 -- What a call does to the tables, and what a crash may leave of them.
-use Rattle.std.specs.Prelude.{◌≡◌, true, false, IsTrue, List, [], Result, OnOk}
+use Rattle.std.specs.Prelude.{◌≡◌, Bool, true, false, IsTrue, List, [], Result, OnOk}
 use Rattle.std.specs.List.{AllByRecursion}
 use Rattle.sqlite.specs.Schema.{Schema}
 use Rattle.sqlite.specs.Table.{Table}
@@ -7,7 +7,7 @@ use Rattle.sqlite.specs.Tree.{Trees}
 use Rattle.sqlite_catalog.specs.Change.{KeepsRows}
 use Rattle.sqlite_catalog.specs.Listing.{IsSound}
 use Rattle.sqlite.specs.State.{HasCleanDisk, State, Survives}
-use Rattle.store_tables.specs.Schema.{all_tables, archive_schema, first_and, no_schema}
+use Rattle.store_tables.specs.Schema.{archive_schema, both_and, both_tables, no_schema}
 use Rattle.store_tables.specs.Reading.{AreTyped}
 use Rattle.store_tables.specs.Rows.{Rows, Holds}
 
@@ -70,6 +70,10 @@ LeavesAsBefore old new = Survives old new (λ _. ⊥)
 abbrev pub IsAsItWas : State → State → Type 0
 IsAsItWas old new = (new.now ≡ old.now) × (new.committed ≡ old.committed)
 
+-- where the schema is one of an archive, it is this one
+abbrev pub IsNoOther : Bool → State → Type 0
+IsNoOther has_spans s = (b : Bool) → s.now.schema ≡ archive_schema b → b ≡ has_spans
+
 -- ---- a new archive
 -- a store in which nothing was made
 pub record IsBlank (t : Trees) : Type 0 where
@@ -90,14 +94,14 @@ pub record Built (s : State) (at : Schema) : Type 0 where
   pub sound : IsSound at s.now.trees
   pub empty : AllByRecursion (λ (t : Table). s.now.trees t.tree ≡ []) at.tables
 
--- a transaction is open in which the tables of the first schema have what they had in `base`, and those that there are
--- beside have no rows
+-- a transaction is open in which the tables that both schemas have are as they were in `base`, and those that there are
+-- beside them have no rows
 pub record Widened (base : Trees) (s : State) (more : List Table) : Type 0 where
   pub is_open : IsTrue s.is_open
   pub inside : IsTrue s.in_transaction
-  pub schema : s.now.schema ≡ first_and more
-  pub sound : IsSound (first_and more) s.now.trees
-  pub same : KeepsRows (all_tables false) base s.now.trees
+  pub schema : s.now.schema ≡ both_and more
+  pub sound : IsSound (both_and more) s.now.trees
+  pub same : KeepsRows both_tables base s.now.trees
   pub empty : AllByRecursion (λ (t : Table). s.now.trees t.tree ≡ []) more
 
 -- calls in a transaction that make one schema of another, and commit nothing

@@ -1,16 +1,15 @@
 -- What a row that a query shows is read as, and why one is refused.
-use Rattle.std.specs.Prelude.{◌≡◌, ◌⊎◌, ◌+◌, ◌<◌, ℕ, pos, List, [], ◌∷◌, length, ⊤}
+use Rattle.std.specs.Prelude.{◌≡◌, ◌+◌, ◌<◌, ℕ, pos, List, [], ◌∷◌, length, ⊤}
+use Rattle.std.specs.List.{AllByRecursion}
+use Rattle.std.specs.Str.{IsUtf8}
 use Rattle.sqlite.specs.declared.types.Value.TheVariants.{Int, Text as Words}
 use Rattle.sqlite.specs.Order.{Row, column}
 use Rattle.stored_lines.specs.Line.{Label}
-use Rattle.record_text.specs.declared.refusal.RefusalKind.{RefusalKind}
-use Rattle.record_text.specs.declared.refusal.RefusalKind.TheVariants.{OutOfMemory, BadStored}
-use Rattle.store_tables.specs.Reading.{IsTypedLine}
-use Rattle.store_tables.specs.Rows.{Rows, words_or_null, number_or_null}
-
--- memory was refused, or this is not so
-abbrev pub FailsUnless : Type 0 → RefusalKind → Type 0
-FailsUnless Fact kind = (kind ≡ OutOfMemory) ⊎ ((kind ≡ BadStored) × ¬ Fact)
+use Rattle.packed_lines.specs.Packed.{packed}
+pub use Rattle.packed_lines.specs.Packed.{FailsUnless}
+use Rattle.store_tables.specs.Reading.{HaveTop, IsTypedLine, IsTypedPack, read_pack}
+use Rattle.store_tables.specs.Rows.{Rows, PackRow, first_tag, first_target, words_or_null, number_or_null}
+use Rattle.store_tables.specs.Shown.{shown_pack}
 
 -- the next number and the society
 abbrev pub read_meta : Rows → ℕ × List ℕ
@@ -23,6 +22,24 @@ IsReadBy {X} shown read row item = (x : X) → row ≡ shown x → item ≡ read
 -- it is read so, and shows the item
 abbrev pub IsReadAs : {X Y : Type 0} → (X → Row) → (X → Y) → (Row → Y → Type 0) → Row → Y → Type 0
 IsReadAs shown read Shows row item = IsReadBy shown read row item × Shows row item
+
+-- lines that the last three columns show: the tag of the first one, their text, and the number that the first one names
+pub record HasPack (row : Row) (lines : List (ℕ × Label)) : Type 0 where
+  pub tag : column row 1 ≡ Words (first_tag lines)
+  pub text : column row 2 ≡ Words (packed lines)
+  pub target : column row 3 ≡ number_or_null (first_target lines)
+  pub utf8 : IsUtf8 (packed lines)
+  pub top : HaveTop lines
+  pub typed : AllByRecursion IsTypedLine lines
+
+-- the first of some lines, which stands at depth 0
+abbrev pub IsTop : ℕ × Label → List (ℕ × Label) → Type 0
+IsTop first lines = (first.0 ≡ 0) × (below : List (ℕ × Label)) × (lines ≡ first ∷ below)
+
+-- the same of lines in one row, whose text is read as the one list of typed lines that has it
+abbrev pub IsPackReadAs : (Row → ℕ × List (ℕ × Label) → Type 0) → Row → ℕ × List (ℕ × Label) → Type 0
+IsPackReadAs Shows row item = ((p : PackRow) → IsTypedPack p → row ≡ shown_pack p → item ≡ read_pack p)
+    × Shows row item
 
 -- the row shows something whose values are those of the program's types
 abbrev pub ShowsTyped : {X : Type 0} → (X → Row) → (X → Type 0) → Row → Type 0

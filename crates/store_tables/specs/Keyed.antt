@@ -6,14 +6,14 @@ use Rattle.store_tables.specs.Rows.{
   Rows,
   BatchRow,
   RecordRow,
-  LineRow,
+  PackRow,
   ReceiptRow,
   SlipRow,
   SlipLineRow,
   LinkRow,
   SoughtRow,
 }
-use Rattle.store_tables.specs.Reading.{read_record, read_receipt, read_slip_line}
+use Rattle.store_tables.specs.Reading.{read_pack, read_record, read_receipt, read_slip_line}
 
 -- the one item of a list, where it has one
 abbrev pub IsOnly : {X : Type 0} → List X → Option X → Type 0
@@ -31,6 +31,15 @@ records_at n rows = map read_record (filter (λ (r : RecordRow). r.no == n) rows
 abbrev pub receipts_at : List ℕ → Rows → List (List ℕ × Receipt)
 receipts_at token rows = map read_receipt (filter (λ (r : ReceiptRow). bytes_eq r.token token) rows.receipts)
 
+-- a number with all its lines
+abbrev pub packs_at : ℕ → Rows → List (ℕ × List (ℕ × Label))
+packs_at n rows = map read_pack (filter (λ (p : PackRow). p.no == n) rows.packs)
+
+-- the lines of a number, where it has some
+abbrev pub lines_within : Option (ℕ × List (ℕ × Label)) → List (ℕ × Label)
+lines_within None = []
+lines_within (Some p) = p.1
+
 abbrev pub slips_at : ℕ → Rows → List SlipRow
 slips_at n rows = filter (λ (s : SlipRow). s.no == n) rows.slips
 
@@ -42,24 +51,6 @@ slip_lines_at n rows = map read_slip_line (filter (λ (s : SlipLineRow). s.slip 
 abbrev pub is_number : ℕ → Option ℕ → Bool
 is_number n None = false
 is_number n (Some m) = m == n
-
--- whether a text that may be missing is this one
-abbrev pub is_text : List ℕ → Option (List ℕ) → Bool
-is_text text None = false
-is_text text (Some t) = bytes_eq t text
-
--- the numbers of the records of all lines with a text
-abbrev pub lines_saying : List ℕ → Rows → List ℕ
-lines_saying text rows = map (λ (l : LineRow). l.no) (filter (λ (l : LineRow). is_text text l.line.1.text) rows.lines)
-
--- the same of those that name a number too
-abbrev pub lines_saying_of : List ℕ → ℕ → Rows → List ℕ
-lines_saying_of text n rows = map (λ (l : LineRow). l.no)
-    (filter (λ (l : LineRow). is_text text l.line.1.text && is_number n l.line.1.target) rows.lines)
-
--- the numbers of the records of all lines that name a number
-abbrev pub lines_naming : ℕ → Rows → List ℕ
-lines_naming n rows = map (λ (l : LineRow). l.no) (filter (λ (l : LineRow). is_number n l.line.1.target) rows.lines)
 
 -- the pairs of a number that is named, in the order of the records that name it
 abbrev pub links_to : ℕ → Rows → List LinkRow

@@ -24,11 +24,8 @@ batch_query = codes "SELECT no, is_open FROM batch ORDER BY no"
 abbrev pub record_query : List ℕ
 record_query = codes "SELECT no, batch FROM record ORDER BY no"
 
-abbrev pub line_query : List ℕ
-line_query = codes "SELECT no, depth, tag, text, dst FROM line ORDER BY id"
-
 abbrev pub record_queries : List (List ℕ)
-record_queries = batch_query ∷ record_query ∷ line_query ∷ []
+record_queries = batch_query ∷ record_query ∷ []
 
 abbrev pub receipt_query : List ℕ
 receipt_query = codes "SELECT token, digest, first, count FROM receipt ORDER BY id"
@@ -42,9 +39,16 @@ slip_line_query = codes "SELECT slip, side, no, depth, tag, text, dst FROM slip_
 abbrev pub history_queries : List (List ℕ)
 history_queries = receipt_query ∷ slip_query ∷ slip_line_query ∷ []
 
--- the queries that read the tables of the first schema
+-- the queries that read the tables which both schemas have
 abbrev pub all_queries : List (List ℕ)
 all_queries = meta_query ∷ record_queries ++ history_queries
+
+-- the query that reads the table of lines which the first schema alone has
+abbrev pub line_query : List ℕ
+line_query = codes "SELECT no, depth, tag, text, dst FROM line ORDER BY rowid"
+
+abbrev pub pack_query : List ℕ
+pack_query = codes "SELECT no, tag, text, dst FROM line ORDER BY no"
 
 abbrev pub span_query : List ℕ
 span_query = codes "SELECT no, lo, hi FROM span ORDER BY no"
@@ -55,13 +59,17 @@ link_query = codes "SELECT id FROM link ORDER BY id"
 abbrev pub sought_query : List ℕ
 sought_query = codes "SELECT no, text, dst FROM sought ORDER BY no"
 
--- the queries that read the tables which the second schema has beside the first one
+-- what is drawn from the lines
+abbrev pub drawn_queries : List (List ℕ)
+drawn_queries = span_query ∷ link_query ∷ sought_query ∷ []
+
+-- the queries that read the tables which the second schema alone has
 abbrev pub later_queries : List (List ℕ)
-later_queries = span_query ∷ link_query ∷ sought_query ∷ []
+later_queries = pack_query ∷ drawn_queries
 
 -- the queries that read the tables of a version
 abbrev pub queries_of : Version → List (List ℕ)
-queries_of First = all_queries
+queries_of First = all_queries ++ line_query ∷ []
 queries_of Second = all_queries ++ later_queries
 
 -- the text is of a table that the second schema alone has, and changes nothing

@@ -1,10 +1,11 @@
 -- What the queries show of the rows: all but the keys that say nothing, the kinds, and the places of lines, which are
 -- in order.
-use Rattle.std.specs.Prelude.{ℕ, ℤ, Bool, true, List, map, length, ◌≡◌, ◌⊎◌, ◌<◌, ◌^◌, ◌/◌, ◌%◌, IfSome, FitsSigned}
+use Rattle.std.specs.Prelude.{ℕ, ℤ, Bool, true, List, [], ◌∷◌, map, length, ◌≡◌, ◌⊎◌, ◌^◌, ◌/◌, ◌%◌, IfSome, FitsSigned}
 use Rattle.std.specs.Int.{w32}
+use Rattle.std.specs.Str.{IsUtf8}
 use Rattle.std.specs.List.{AllByRecursion}
 use Rattle.stored_lines.specs.Line.{Label}
-use Rattle.record_text.specs.Text.{IsTag, IsText}
+use Rattle.record_text.specs.Text.{IsText}
 use Rattle.receipts.specs.Tokens.{IsToken}
 use Rattle.receipts.specs.declared.answer.Receipt.{Receipt}
 use Rattle.store_tables.specs.Rows.{
@@ -12,6 +13,7 @@ use Rattle.store_tables.specs.Rows.{
   BatchRow,
   RecordRow,
   LineRow,
+  PackRow,
   ReceiptRow,
   SlipRow,
   SlipLineRow,
@@ -21,14 +23,18 @@ use Rattle.store_tables.specs.Rows.{
   link_place,
   slip_line_of,
 }
+use Rattle.packed_lines.specs.Packed.{packed}
+pub use Rattle.packed_lines.specs.Packed.{IsU32, IsTypedLine}
 
 pub record ReadRows : Type 0 where
   pub next : ℕ
   pub batches : List BatchRow
   -- numbers, each with its batch
   pub records : List (ℕ × ℕ)
-  -- stored lines, each with the number of its record
+  -- stored lines in rows of their own, each with the number of its record
   pub lines : List (ℕ × (ℕ × Label))
+  -- numbers of records, each with all its stored lines
+  pub packs : List (ℕ × List (ℕ × Label))
   -- receipts, each with its token
   pub receipts : List (List ℕ × Receipt)
   pub slips : List SlipRow
@@ -40,6 +46,9 @@ read_record r = (r.no, r.batch)
 
 abbrev pub read_line : LineRow → ℕ × (ℕ × Label)
 read_line l = (l.no, l.line)
+
+abbrev pub read_pack : PackRow → ℕ × List (ℕ × Label)
+read_pack p = (p.no, p.lines)
 
 abbrev pub read_receipt : ReceiptRow → List ℕ × Receipt
 read_receipt r = (r.token, r.receipt)
@@ -60,6 +69,7 @@ read_of rows = record {
   batches = rows.batches;
   records = map read_record rows.records;
   lines = map read_line rows.lines;
+  packs = map read_pack rows.packs;
   receipts = map read_receipt rows.receipts;
   slips = rows.slips;
   slip_lines = map read_slip_line rows.slip_lines;
@@ -70,12 +80,16 @@ read_of rows = record {
 abbrev pub IsVersion : ℕ → Type 0
 IsVersion version = (version ≡ 1) ⊎ (version ≡ 2)
 
--- a number of 32 bits
-abbrev pub IsU32 : ℕ → Type 0
-IsU32 n = n < 2 ^ 32
+-- the lines of a record: there is a first one, which stands at depth 0
+abbrev pub HaveTop : List (ℕ × Label) → Type 0
+HaveTop [] = ⊥
+HaveTop (l ∷ ls) = l.0 ≡ 0
 
-abbrev pub IsTypedLine : ℕ × Label → Type 0
-IsTypedLine l = IsU32 l.0 × IsTag l.1.tag × IfSome l.1.text IsText × IfSome l.1.target IsU32
+pub record IsTypedPack (p : PackRow) : Type 0 where
+  pub number : IsU32 p.no
+  pub top : HaveTop p.lines
+  pub lines : AllByRecursion IsTypedLine p.lines
+  pub text : IsUtf8 (packed p.lines)
 
 abbrev pub IsTypedReceipt : Receipt → Type 0
 IsTypedReceipt r = (length r.digest ≡ 32) × IsU32 r.answer.first × IsU32 r.answer.count
@@ -97,7 +111,7 @@ abbrev pub IsTypedSought : SoughtRow → Type 0
 IsTypedSought s = IsU32 s.no × IsText s.text × IfSome s.target IsU32
 
 -- each value of the rows is one of its type: numbers of 32 bits, texts, tags, tokens, digests of 32 bytes; and the
--- second version has spans, links and what is looked for
+-- second version has packs, spans, links and what is looked for
 pub record AreTyped (rows : Rows) : Type 0 where
   pub version : IsVersion rows.version
   pub dated : rows.version ≡ 2 → rows.has_spans ≡ true
@@ -105,6 +119,7 @@ pub record AreTyped (rows : Rows) : Type 0 where
   pub batches : AllByRecursion (λ (b : BatchRow). IsU32 b.no) rows.batches
   pub records : AllByRecursion (λ (r : RecordRow). IsU32 r.no × IsU32 r.batch) rows.records
   pub lines : AllByRecursion (λ (l : LineRow). IsU32 l.no × IsTypedLine l.line) rows.lines
+  pub packs : AllByRecursion IsTypedPack rows.packs
   pub receipts : AllByRecursion (λ (r : ReceiptRow). IsToken r.token × IsTypedReceipt r.receipt) rows.receipts
   pub slips : AllByRecursion IsTypedSlip rows.slips
   pub slip_lines : AllByRecursion (λ (s : SlipLineRow). IsU32 s.slip × IsU32 s.no × IsTypedLine s.line) rows.slip_lines

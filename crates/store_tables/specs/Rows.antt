@@ -18,6 +18,7 @@ use Rattle.std.specs.Prelude.{
   map,
   filter,
   fold,
+  flat_map,
   cond,
   nat_lt,
   Some,
@@ -35,6 +36,7 @@ use Rattle.sqlite.specs.declared.types.Value.TheVariants.{Null, Int, Text as Wor
 use Rattle.sqlite.specs.Order.{Row}
 use Rattle.sqlite.specs.Tree.{Trees, IsAscending}
 use Rattle.stored_lines.specs.Line.{Label}
+use Rattle.packed_lines.specs.Packed.{packed}
 use Rattle.receipts.specs.declared.answer.Receipt.{Receipt}
 
 pub record BatchRow : Type 0 where
@@ -47,12 +49,17 @@ pub record RecordRow : Type 0 where
   pub kind : List ℕ
   pub batch : ℕ
 
--- a stored line of a record, at its place among the record's lines
+-- a stored line of a record, at its place among the record's lines: a row of the first schema
 pub record LineRow : Type 0 where
   pub id : ℕ
   pub no : ℕ
   pub at : ℕ
   pub line : ℕ × Label
+
+-- all stored lines of a record: a row of the second schema
+pub record PackRow : Type 0 where
+  pub no : ℕ
+  pub lines : List (ℕ × Label)
 
 pub record ReceiptRow : Type 0 where
   pub id : ℕ
@@ -91,8 +98,9 @@ pub record SoughtRow : Type 0 where
   pub text : List ℕ
   pub target : Option ℕ
 
--- the version that `meta` shows, whether the schema is the second one, which has spans, links and what is looked for,
--- the next number, the society, and the rows of each table in the order of their keys
+-- the version that `meta` shows, whether the schema is the second one, which has packs, spans, links and what is looked
+-- for, and no lines in rows of their own, the next number, the society, and the rows of each table in the order of
+-- their keys
 pub record Rows : Type 0 where
   pub version : ℕ
   pub has_spans : Bool
@@ -101,6 +109,7 @@ pub record Rows : Type 0 where
   pub batches : List BatchRow
   pub records : List RecordRow
   pub lines : List LineRow
+  pub packs : List PackRow
   pub receipts : List ReceiptRow
   pub slips : List SlipRow
   pub slip_lines : List SlipLineRow
@@ -141,6 +150,20 @@ line_fields l = Int (pos l.0) ∷ Words l.1.tag ∷ words_or_null l.1.text ∷ n
 abbrev pub line_values : LineRow → Row
 line_values l = Int (pos l.id) ∷ Null ∷ Int (pos l.no) ∷ Int (pos l.at) ∷ line_fields l.line
 
+-- what a row shows beside the text of all lines: the tag of the first one, and the number that it names
+abbrev pub first_tag : List (ℕ × Label) → List ℕ
+first_tag [] = []
+first_tag (l ∷ ls) = l.1.tag
+
+abbrev pub first_target : List (ℕ × Label) → Option ℕ
+first_target [] = None
+first_target (l ∷ ls) = l.1.target
+
+-- the first line stands at place 0 and depth 0, and all that it does not show is in the text
+abbrev pub pack_values : PackRow → Row
+pack_values p = Int (pos p.no) ∷ Null ∷ Int (pos 0) ∷ Int (pos 0) ∷ Words (first_tag p.lines) ∷ Words (packed p.lines)
+    ∷ number_or_null (first_target p.lines) ∷ []
+
 abbrev pub receipt_fields : Receipt → Row
 receipt_fields r = Blob r.digest ∷ Int (pos r.answer.first) ∷ Int (pos r.answer.count) ∷ []
 
@@ -180,27 +203,29 @@ pub record Keeps {X : Type 0} (values : X → Row) (key : X → ℕ) (xs : List 
   pub is : tree ≡ map values xs
   pub rise : IsAscending (λ a b. key a < key b) xs
 
--- the rows of the tables that the second schema has beside the first one
-pub record KeepsLater (spans : List SpanRow) (links : List LinkRow) (soughts : List SoughtRow) (t : Trees) :
-    Type 0 where
+-- the rows of the tables that the second schema alone has
+pub record KeepsLater (packs : List PackRow) (spans : List SpanRow) (links : List LinkRow) (soughts : List SoughtRow)
+    (t : Trees) : Type 0 where
+  pub packs_kept : Keeps pack_values (λ (p : PackRow). p.no) packs (t 11)
   pub spans_kept : Keeps span_values (λ (s : SpanRow). s.no) spans (t 12)
   pub links_kept : Keeps link_values link_place links (t 13)
   pub soughts_kept : Keeps sought_values (λ (s : SoughtRow). s.no) soughts (t 14)
 
--- the first schema has none of them
-abbrev pub HoldsLater : Bool → List SpanRow → List LinkRow → List SoughtRow → Trees → Type 0
-HoldsLater false spans links soughts t = (spans ≡ []) × (links ≡ []) × (soughts ≡ [])
-HoldsLater true spans links soughts t = KeepsLater spans links soughts t
+-- the rows of the tables that one schema has and the other has not: the first one has lines, the second one the others
+abbrev pub HoldsOwn : Bool → List LineRow → List PackRow → List SpanRow → List LinkRow → List SoughtRow → Trees → Type 0
+HoldsOwn false lines packs spans links soughts t =
+    Keeps line_values (λ (l : LineRow). l.id) lines (t 3) × (packs ≡ []) × (spans ≡ []) × (links ≡ [])
+    × (soughts ≡ [])
+HoldsOwn true lines packs spans links soughts t = (lines ≡ []) × KeepsLater packs spans links soughts t
 
 pub record Holds (rows : Rows) (t : Trees) : Type 0 where
   pub meta : t 0 ≡ meta_values rows ∷ []
   pub batches : Keeps batch_values (λ (b : BatchRow). b.no) rows.batches (t 1)
   pub records : Keeps record_values (λ (r : RecordRow). r.no) rows.records (t 2)
-  pub lines : Keeps line_values (λ (l : LineRow). l.id) rows.lines (t 3)
   pub receipts : Keeps receipt_values (λ (r : ReceiptRow). r.id) rows.receipts (t 4)
   pub slips : Keeps slip_values (λ (s : SlipRow). s.no) rows.slips (t 5)
   pub slip_lines : Keeps slip_line_values (λ (s : SlipLineRow). s.id) rows.slip_lines (t 6)
-  pub later : HoldsLater rows.has_spans rows.spans rows.links rows.soughts t
+  pub own : HoldsOwn rows.has_spans rows.lines rows.packs rows.spans rows.links rows.soughts t
 
 -- ---- what one call makes of the rows
 -- the key of a row that gets the next one: one above the last
@@ -247,26 +272,33 @@ record_at n kind batch rows =
 abbrev pub without_record_row : ℕ → Rows → Rows
 without_record_row n rows = record rows { records = filter (λ (r : RecordRow). not (r.no == n)) rows.records }
 
-abbrev pub with_line : ℕ → ℕ → ℕ × Label → Rows → Rows
-with_line n at line rows =
-    record rows {
-      lines = rows.lines ++ record {
-        id = next_key (λ (l : LineRow). l.id) rows.lines;
-        no = n;
-        at = at;
-        line = line;
-      } ∷ [];
-    }
+-- all lines of a number, in place of those of its row
+abbrev pub with_pack : ℕ → List (ℕ × Label) → Rows → Rows
+with_pack n ls rows =
+    record rows { packs = put_by (λ (p : PackRow). p.no) (record { no = n; lines = ls }) rows.packs }
 
+-- no rows of a number with lines
 abbrev pub without_lines : ℕ → Rows → Rows
-without_lines n rows = record rows { lines = filter (λ (l : LineRow). not (l.no == n)) rows.lines }
+without_lines n rows =
+    record rows {
+      lines = filter (λ (l : LineRow). not (l.no == n)) rows.lines;
+      packs = filter (λ (p : PackRow). not (p.no == n)) rows.packs;
+    }
 
 -- a line of a number, at a place or behind it
 abbrev pub is_line_from : ℕ → ℕ → LineRow → Bool
 is_line_from n at l = (l.no == n) && not (nat_lt l.at at)
 
+-- the lines of a number in one row, which stands at place 0
+abbrev pub is_pack_from : ℕ → ℕ → PackRow → Bool
+is_pack_from n at p = (p.no == n) && not (nat_lt 0 at)
+
 abbrev pub without_lines_from : ℕ → ℕ → Rows → Rows
-without_lines_from n at rows = record rows { lines = filter (λ l. not (is_line_from n at l)) rows.lines }
+without_lines_from n at rows =
+    record rows {
+      lines = filter (λ l. not (is_line_from n at l)) rows.lines;
+      packs = filter (λ p. not (is_pack_from n at p)) rows.packs;
+    }
 
 abbrev pub with_receipt : List ℕ → Receipt → Rows → Rows
 with_receipt token receipt rows =
@@ -308,14 +340,9 @@ with_slip_line slip is_new n at line rows = record rows {
 abbrev pub without_slip_lines : ℕ → Rows → Rows
 without_slip_lines n rows = record rows { slip_lines = filter (λ (s : SlipLineRow). not (s.slip == n)) rows.slip_lines }
 
--- lines of a record from a place on
-abbrev pub with_lines : ℕ → ℕ → List (ℕ × Label) → Rows → Rows
-with_lines n at [] rows = rows
-with_lines n at (l ∷ ls) rows = with_lines n (at + 1) ls (with_line n at l rows)
-
 -- the lines of a record, in place of those that it had
 abbrev pub with_changed_lines : ℕ → List (ℕ × Label) → Rows → Rows
-with_changed_lines n ls rows = with_lines n 0 ls (without_lines n rows)
+with_changed_lines n ls rows = with_pack n ls (without_lines n rows)
 
 -- lines of one side of a number in a slip, from a place on
 abbrev pub with_slip_lines : ℕ → Bool → ℕ → ℕ → List (ℕ × Label) → Rows → Rows
@@ -360,9 +387,10 @@ with_sought n text target rows =
 abbrev pub without_sought : ℕ → Rows → Rows
 without_sought n rows = record rows { soughts = filter (λ (s : SoughtRow). not (s.no == n)) rows.soughts }
 
--- ---- the second schema, made of the first one: its tables have no rows yet; then `meta` shows its version
+-- ---- the second schema, made of the first one: its tables have no rows yet, and the lines are gone; then `meta` shows
+-- its version
 abbrev pub with_later_tables : Rows → Rows
-with_later_tables rows = record rows { has_spans = true }
+with_later_tables rows = record rows { has_spans = true; lines = [] }
 
 abbrev pub with_version : ℕ → Rows → Rows
 with_version version rows = record rows { version = version }
@@ -377,6 +405,7 @@ bare society = record {
   batches = [];
   records = [];
   lines = [];
+  packs = [];
   receipts = [];
   slips = [];
   slip_lines = [];
@@ -392,9 +421,11 @@ nothing_yet society = with_batch 0 false (bare society)
 abbrev pub bare_first : List ℕ → Rows
 bare_first society = record (bare society) { version = 1; has_spans = false }
 
--- ---- what is read of the rows: the stored lines of a number, and those of a slip, each with its side and its number
+-- ---- what is read of the rows: the stored lines of a number, of which one schema has them in rows of their own and
+-- the other in one row, and those of a slip, each with its side and its number
 abbrev pub lines_of : ℕ → Rows → List (ℕ × Label)
 lines_of n rows = map (λ (l : LineRow). l.line) (filter (λ (l : LineRow). l.no == n) rows.lines)
+    ++ flat_map (λ (p : PackRow). p.lines) (filter (λ (p : PackRow). p.no == n) rows.packs)
 
 abbrev pub slip_line_of : SlipLineRow → Bool × (ℕ × (ℕ × Label))
 slip_line_of s = (s.is_new, (s.no, s.line))

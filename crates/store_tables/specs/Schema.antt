@@ -79,9 +79,17 @@ abbrev pub line_columns : List Column
 line_columns = number (codes "no") ∷ number (codes "pos") ∷ number (codes "depth") ∷ a_column (codes "tag") Text true
     ∷ a_column (codes "text") Text false ∷ a_column (codes "dst") Integer false ∷ []
 
+-- each line in a row of its own: of the first schema
 abbrev pub lines : Table
 lines = a_table (codes "line") 3 (codes "id") line_columns
     (to_number_of (codes "record") 2 ∷ to_number_of (codes "record") 7 ∷ [])
+
+-- all lines of a record in one row: of the second schema
+abbrev pub packs : Table
+packs = a_table (codes "line") 11 (codes "no")
+    (number (codes "pos") ∷ number (codes "depth") ∷ a_column (codes "tag") Text true
+    ∷ a_column (codes "text") Text false ∷ a_column (codes "dst") Integer false ∷ [])
+    (to_number_of (codes "record") 0 ∷ [])
 
 abbrev pub receipts : Table
 receipts = a_table (codes "receipt") 4 (codes "id")
@@ -150,32 +158,32 @@ sought_by_text = record {
   is_unique = false;
 }
 
--- what the second schema has beside the first one
-abbrev pub later_tables : Bool → List Table
-later_tables false = []
-later_tables true = spans ∷ links ∷ soughts ∷ pasts ∷ []
-
-abbrev pub later_indexes : Bool → List Index
-later_indexes false = []
-later_indexes true = sought_by_text ∷ []
+-- the tables behind the first three, in the order in which they were made
+abbrev pub more_tables : Bool → List Table
+more_tables false = lines ∷ receipts ∷ slips ∷ slip_lines ∷ []
+more_tables true = receipts ∷ slips ∷ slip_lines ∷ packs ∷ spans ∷ links ∷ soughts ∷ pasts ∷ []
 
 abbrev pub all_tables : Bool → List Table
-all_tables has_spans = meta ∷ batches ∷ records ∷ lines ∷ receipts ∷ slips ∷ slip_lines ∷ later_tables has_spans
+all_tables has_spans = meta ∷ batches ∷ records ∷ more_tables has_spans
+
+abbrev pub all_indexes : Bool → List Index
+all_indexes false = line_by_record ∷ line_by_target ∷ receipt_by_token ∷ slip_line_by_slip ∷ line_by_text ∷ []
+all_indexes true = receipt_by_token ∷ slip_line_by_slip ∷ sought_by_text ∷ []
 
 -- the schema of an archive: the second one where it has spans, else the first one
 abbrev pub archive_schema : Bool → Schema
-archive_schema has_spans = record {
-  tables = all_tables has_spans;
-  indexes = line_by_record ∷ line_by_target ∷ receipt_by_token
-      ∷ slip_line_by_slip ∷ line_by_text ∷ later_indexes has_spans;
-  views = [];
-}
+archive_schema has_spans = record { tables = all_tables has_spans; indexes = all_indexes has_spans; views = [] }
 
--- the first schema with more tables
-abbrev pub first_and : List Table → Schema
-first_and more = record (archive_schema false) {
-  tables = meta ∷ batches ∷ records ∷ lines ∷ receipts ∷ slips ∷ slip_lines
-      ∷ more;
+-- the tables that both schemas have
+abbrev pub both_tables : List Table
+both_tables = meta ∷ batches ∷ records ∷ receipts ∷ slips ∷ slip_lines ∷ []
+
+-- these tables, with their indexes, and more
+abbrev pub both_and : List Table → Schema
+both_and more = record {
+  tables = meta ∷ batches ∷ records ∷ receipts ∷ slips ∷ slip_lines ∷ more;
+  indexes = receipt_by_token ∷ slip_line_by_slip ∷ [];
+  views = [];
 }
 
 abbrev pub no_schema : Schema

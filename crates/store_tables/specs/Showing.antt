@@ -1,10 +1,11 @@
 -- What the tables of the schema show to the queries that read them, whoever wrote the rows.
-use Rattle.std.specs.Prelude.{◌≡◌, ℕ, ℤ, pos, not, Bool, List, [], ◌∷◌}
+use Rattle.std.specs.Prelude.{◌≡◌, ℕ, ℤ, pos, not, Bool, true, false, List, [], ◌∷◌}
 use Rattle.std.specs.Ordering.{int_eq}
 use Rattle.sqlite.specs.declared.types.Value.TheVariants.{Int, Text as Words, Blob}
 use Rattle.sqlite.specs.Order.{Row, column}
 use Rattle.sqlite.specs.State.{State, Shown}
 use Rattle.stored_lines.specs.Line.{Label}
+use Rattle.packed_lines.specs.Packed.{packed}
 use Rattle.receipts.specs.declared.answer.Receipt.{Receipt}
 use Rattle.store_tables.specs.Conversion.{EachWith, IsLineAt}
 use Rattle.store_tables.specs.Looking.{meta_query}
@@ -12,6 +13,7 @@ use Rattle.store_tables.specs.Prepared.{
   batch_query,
   record_query,
   line_query,
+  pack_query,
   receipt_query,
   slip_query,
   slip_line_query,
@@ -28,6 +30,8 @@ use Rattle.store_tables.specs.Rows.{
   SoughtRow,
   SpanRow,
   day_or_null,
+  first_tag,
+  first_target,
   integer_at,
   link_place,
   number_or_null,
@@ -54,9 +58,10 @@ ShowsRecord row r = IsNumberAt row 0 r.0 × IsNumberAt row 1 r.1
 abbrev pub ShowsLine : Row → ℕ × (ℕ × Label) → Type 0
 ShowsLine row l = IsNumberAt row 0 l.0 × IsLineAt row 1 l.1
 
--- the columns of a stored line alone
-abbrev pub ShowsFields : Row → ℕ × Label → Type 0
-ShowsFields row l = IsLineAt row 0 l
+-- a number, and of its lines the first one's tag, the packed text and the number that the first one names
+abbrev pub ShowsPack : Row → ℕ × List (ℕ × Label) → Type 0
+ShowsPack row p = IsNumberAt row 0 p.0 × (column row 1 ≡ Words (first_tag p.1)) × (column row 2 ≡ Words (packed p.1))
+    × (column row 3 ≡ number_or_null (first_target p.1))
 
 -- a number alone
 abbrev pub ShowsNumber : Row → ℕ → Type 0
@@ -89,11 +94,14 @@ ShowsSought row s = IsNumberAt row 0 s.no × (column row 1 ≡ Words s.text) × 
 abbrev pub ShowsEach : {Y : Type 0} → List ℕ → (Row → Y → Type 0) → State → State → List Y → Type 0
 ShowsEach sql Shows old new items = (all : List Row) × Shown sql [] old new all × EachWith Shows all items
 
-pub record ShowsRecords (batches : List BatchRow) (records : List (ℕ × ℕ)) (lines : List (ℕ × (ℕ × Label)))
-    (old new : State) : Type 0 where
+pub record ShowsRecords (batches : List BatchRow) (records : List (ℕ × ℕ)) (old new : State) : Type 0 where
   pub batches_shown : ShowsEach batch_query ShowsBatch old new batches
   pub records_shown : ShowsEach record_query ShowsRecord old new records
-  pub lines_shown : ShowsEach line_query ShowsLine old new lines
+
+-- lines in rows of their own are of the first schema, and lines of which a record has one row of the second one
+abbrev pub ShowsLines : Bool → List (ℕ × (ℕ × Label)) → List (ℕ × List (ℕ × Label)) → State → State → Type 0
+ShowsLines false lines packs old new = ShowsEach line_query ShowsLine old new lines × (packs ≡ [])
+ShowsLines true lines packs old new = ShowsEach pack_query ShowsPack old new packs × (lines ≡ [])
 
 pub record ShowsHistory (receipts : List (List ℕ × Receipt)) (slips : List SlipRow)
     (slip_lines : List (ℕ × (Bool × (ℕ × (ℕ × Label))))) (old new : State) : Type 0 where
@@ -101,15 +109,16 @@ pub record ShowsHistory (receipts : List (List ℕ × Receipt)) (slips : List Sl
   pub slips_shown : ShowsEach slip_query ShowsSlip old new slips
   pub slip_lines_shown : ShowsEach slip_line_query ShowsSlipLine old new slip_lines
 
--- each query shows what is read
-pub record ShowsRead (read : ReadRows) (old new : State) : Type 0 where
+-- each query of a schema shows what is read
+pub record ShowsRead (has_spans : Bool) (read : ReadRows) (old new : State) : Type 0 where
   pub meta : (society : List ℕ) × ShowsEach meta_query ShowsMeta old new ((read.next, society) ∷ [])
-  pub records : ShowsRecords read.batches read.records read.lines old new
+  pub records : ShowsRecords read.batches read.records old new
+  pub lines : ShowsLines has_spans read.lines read.packs old new
   pub history : ShowsHistory read.receipts read.slips read.slip_lines old new
 
 -- whoever reads the tables is shown these rows, and leaves the tables as they are
 abbrev pub ShowsRows : Rows → State → Type 0
-ShowsRows rows s = ShowsRead (read_of rows) s s
+ShowsRows rows s = ShowsRead rows.has_spans (read_of rows) s s
 
 -- whoever reads the spans is shown these, and leaves the tables as they are
 abbrev pub ShowsSpans : List SpanRow → State → Type 0

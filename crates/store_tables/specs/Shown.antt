@@ -2,11 +2,13 @@
 use Rattle.std.specs.Prelude.{[], ◌∷◌, pos}
 use Rattle.sqlite.specs.declared.types.Value.TheVariants.{Int, Text as Words}
 use Rattle.sqlite.specs.Order.{Row}
+use Rattle.packed_lines.specs.Packed.{packed}
 use Rattle.store_tables.specs.Rows.{
   Rows,
   BatchRow,
   RecordRow,
   LineRow,
+  PackRow,
   ReceiptRow,
   SlipRow,
   SlipLineRow,
@@ -14,6 +16,8 @@ use Rattle.store_tables.specs.Rows.{
   LinkRow,
   SoughtRow,
   day_or_null,
+  first_tag,
+  first_target,
   flag,
   integer_at,
   line_fields,
@@ -33,6 +37,10 @@ shown_record r = Int (pos r.no) ∷ Int (pos r.batch) ∷ []
 
 abbrev pub shown_line : LineRow → Row
 shown_line l = Int (pos l.no) ∷ line_fields l.line
+
+abbrev pub shown_pack : PackRow → Row
+shown_pack p = Int (pos p.no) ∷ Words (first_tag p.lines) ∷ Words (packed p.lines)
+    ∷ number_or_null (first_target p.lines) ∷ []
 
 abbrev pub shown_receipt : ReceiptRow → Row
 shown_receipt r = Words r.token ∷ receipt_fields r.receipt

@@ -15,7 +15,7 @@ use std::alloc::Global;
 
 const NUMBERS_IN: &str = "SELECT no FROM record WHERE batch = ?1 ORDER BY no";
 
-const OWN_LINES: &str = "SELECT no FROM line WHERE no = ?1 ORDER BY id";
+const OWN_LINES: &str = "SELECT no FROM line WHERE no = ?1 ORDER BY rowid";
 
 /// The numbers of a batch, in order. Errors as of `read_rows`.
 pub fn numbers_in<S: Alter>(
@@ -31,7 +31,8 @@ pub fn numbers_in<S: Alter>(
     read_all(alloc, conn, NUMBERS_IN, params![batch])
 }
 
-/// How many lines a number has. 80: the database failed, or memory was refused to it. Takes no memory outside of it.
+/// How many rows with lines a number has: in the second schema one, where it has any. 80: the database failed, or
+/// memory was refused to it. Takes no memory outside of it.
 pub fn count_lines<S: Alter>(conn: &mut Connection<S>, number: u32) -> Result<usize, RefusalKind>
     requires autocommit { conn.old.in_transaction ≡ false }
     ensures looks { Looks (λ rows count. count ≡ count_of_lines number rows) (state S.Store conn.old)
@@ -69,7 +70,7 @@ pub fn delete_batch<S: Alter>(tx: &mut Transaction<'_, S>, number: u32) -> Resul
     Ok(())
 }
 
-/// Takes the lines of a number out, from a place on.
+/// Takes the lines of a number out, from a place on. In the second schema they stand at place 0.
 pub fn delete_lines_from<S: Alter>(
     tx: &mut Transaction<'_, S>,
     number: u32,

@@ -3,7 +3,7 @@
 ghost use Rattle.std.specs.Prelude.{◌≡◌, ◌↔◌, false, IsTrue};
 ghost use Rattle.sqlite.specs.Held.{state};
 ghost use Rattle.sqlite.specs.State.{HasCleanDisk, IsLive, IsRolledBack, IsUnchanged};
-ghost use Rattle.store_tables.specs.Calls.{IsAsItWas, LeavesAsBefore, LeavesOnly, Settled};
+ghost use Rattle.store_tables.specs.Calls.{IsAsItWas, IsNoOther, LeavesAsBefore, LeavesOnly, Settled};
 ghost use Rattle.store_tables.specs.Rows.{Rows};
 ghost use Rattle.store_tables.specs.Schema.{no_schema};
 
@@ -15,6 +15,13 @@ pub fn is_blank<S: Alter>(conn: &Connection<S>) -> bool
 {
     let schema = conn.schema();
     schema.tables.is_empty() && schema.indexes.is_empty() && schema.views.is_empty()
+}
+
+/// Whether the tables are those of the second schema, where they are those of an archive.
+pub(crate) fn is_second<S: Alter>(conn: &Connection<S>) -> bool
+    ensures { IsNoOther result (state S.Store conn.now) }
+{
+    conn.schema().tables.len() == 11
 }
 
 /// Whether the connection still answers after a call on it was refused. What was begun and not committed is taken back.

@@ -142,13 +142,18 @@ fn fill<S: Alter>(tx: &mut Transaction<'_, S>, society: &Text) -> Result<(), Err
     spans::set_version(tx)
 }
 
-/// The tables that the second schema has beside the first one, without rows, in an archive of the first schema.
+/// The tables that the second schema alone has, without rows, in an archive of the first schema, whose lines go.
 pub fn create_later_tables<S: Alter>(tx: &mut Transaction<'_, S>) -> Result<(), Error>
     ensures same_reference { tx.new.conn.ghost_name ≡ tx.old.conn.ghost_name }
     ensures ok { WritesUndated (state S.Store tx.old.conn.now) (state S.Store tx.new.conn.now)
         result with_later_tables }
     ensures survives { LeavesAsBefore (state S.Store tx.old.conn.now) (state S.Store tx.new.conn.now) }
 {
+    tx.execute("DROP TABLE line", &[])?;
+    tx.execute(
+        "CREATE TABLE line (no INTEGER PRIMARY KEY REFERENCES record (no) ON DELETE RESTRICT, pos INTEGER NOT NULL, depth INTEGER NOT NULL, tag TEXT NOT NULL, text TEXT, dst INTEGER) STRICT",
+        &[],
+    )?;
     tx.execute(
         "CREATE TABLE span (no INTEGER PRIMARY KEY REFERENCES record (no) ON DELETE RESTRICT, lo INTEGER, hi INTEGER) STRICT",
         &[],

@@ -1,7 +1,8 @@
 //! The rows of one number or of one token, each read by a statement that names it.
 
-ghost use Rattle.std.specs.Prelude.{◌≡◌, ◌≤◌, false, List, length, IfOk, IfErr};
+ghost use Rattle.std.specs.Prelude.{◌≡◌, ◌≤◌, true, false, List, length, IfOk, IfErr};
 ghost use Rattle.sqlite.specs.Held.{state};
+ghost use Rattle.store_tables.specs.Calls.{IsNoOther};
 ghost use Rattle.store_tables.specs.Conversion.{FailsUnless};
 ghost use Rattle.store_tables.specs.Keyed.{
   IsOnly,
@@ -10,15 +11,15 @@ ghost use Rattle.store_tables.specs.Keyed.{
   receipts_at,
   slips_at,
   slip_lines_at,
-  lines_naming,
-  lines_saying,
-  lines_saying_of,
+  lines_within,
+  packs_at,
 };
 ghost use Rattle.store_tables.specs.Looking.{Looks};
 ghost use Rattle.store_tables.specs.Rows.{lines_of};
 
+use crate::connection::is_second;
 use crate::reading::{read_all, read_meta};
-use crate::stored::{BatchRow, ReceiptRow, RecordRow, SlipLineRow, SlipRow};
+use crate::stored::{BatchRow, PackRow, ReceiptRow, RecordRow, SlipLineRow, SlipRow};
 use receipts::Token;
 use record_text::RefusalKind;
 use sqlite::{Alter, Connection, params};
@@ -30,13 +31,7 @@ const BATCH_AT: &str = "SELECT no, is_open FROM batch WHERE no = ?1 ORDER BY no"
 
 const RECORD_AT: &str = "SELECT no, batch FROM record WHERE no = ?1 ORDER BY no";
 
-const LINES_AT: &str = "SELECT depth, tag, text, dst FROM line WHERE no = ?1 ORDER BY id";
-
-const LINES_NAMING: &str = "SELECT no FROM line WHERE dst = ?1 ORDER BY id";
-
-const LINES_SAYING: &str = "SELECT no FROM line WHERE text = ?1 ORDER BY id";
-
-const LINES_SAYING_OF: &str = "SELECT no FROM line WHERE text = ?1 AND dst = ?2 ORDER BY id";
+const PACK_AT: &str = "SELECT no, tag, text, dst FROM line WHERE no = ?1 ORDER BY no";
 
 const RECEIPTS_AT: &str =
     "SELECT token, digest, first, count FROM receipt WHERE token = ?1 ORDER BY id";
@@ -83,7 +78,7 @@ pub fn record_at<S: Alter>(
     at_most_one(records_at(alloc, conn, number)?)
 }
 
-/// The stored lines of a number, in order.
+/// The stored lines of a number, in order. 80 also where the tables are those of the first schema.
 pub fn lines_at<S: Alter>(
     alloc: Global,
     conn: &mut Connection<S>,
@@ -94,50 +89,36 @@ pub fn lines_at<S: Alter>(
         (state S.Store conn.new) result }
     ensures ended { conn.new.in_transaction ≡ false }
 {
-    read_all(alloc, conn, LINES_AT, params![number])
+    if !is_second(conn) {
+        return Err(RefusalKind::Storage);
+    }
+    let pack = pack_at(alloc, conn, number)?;
+    Ok(lines_within(alloc, pack))
 }
 
-/// The numbers of all lines that name a number, in the order of the lines: a number as often as it has such lines.
-pub fn lines_naming<S: Alter>(
+/// The lines of a number, where it has some.
+fn lines_within(alloc: Global, pack: Option<PackRow>) -> Vec<StoredLine>
+    ensures { result.items ≡ lines_within pack }
+{
+    match pack {
+        Some(pack) => pack.lines,
+        None => Vec::new(alloc),
+    }
+}
+
+/// All lines of a number, where it has some, of tables that are not those of the first schema.
+fn pack_at<S: Alter>(
     alloc: Global,
     conn: &mut Connection<S>,
     number: u32,
-) -> Result<Vec<u32>, RefusalKind>
+) -> Result<Option<PackRow>, RefusalKind>
     requires autocommit { conn.old.in_transaction ≡ false }
-    ensures looks { Looks (λ rows items. items.items ≡ lines_naming number rows) (state S.Store conn.old)
+    requires second { IsNoOther true (state S.Store conn.old) }
+    ensures looks { Looks (λ rows found. IsOnly (packs_at number rows) found) (state S.Store conn.old)
         (state S.Store conn.new) result }
     ensures ended { conn.new.in_transaction ≡ false }
 {
-    read_all(alloc, conn, LINES_NAMING, params![number])
-}
-
-/// The numbers of all lines with a text, in the order of the lines: a number as often as it has such lines.
-pub fn lines_saying<S: Alter>(
-    alloc: Global,
-    conn: &mut Connection<S>,
-    text: &str,
-) -> Result<Vec<u32>, RefusalKind>
-    requires autocommit { conn.old.in_transaction ≡ false }
-    ensures looks { Looks (λ rows items. items.items ≡ lines_saying text.now rows) (state S.Store conn.old)
-        (state S.Store conn.new) result }
-    ensures ended { conn.new.in_transaction ≡ false }
-{
-    read_all(alloc, conn, LINES_SAYING, params![text])
-}
-
-/// The numbers of all lines that have a text and name a number, as of `lines_saying`.
-pub fn lines_saying_of<S: Alter>(
-    alloc: Global,
-    conn: &mut Connection<S>,
-    text: &str,
-    number: u32,
-) -> Result<Vec<u32>, RefusalKind>
-    requires autocommit { conn.old.in_transaction ≡ false }
-    ensures looks { Looks (λ rows items. items.items ≡ lines_saying_of text.now number rows) (state S.Store conn.old)
-        (state S.Store conn.new) result }
-    ensures ended { conn.new.in_transaction ≡ false }
-{
-    read_all(alloc, conn, LINES_SAYING_OF, params![text, number])
+    at_most_one(packs_at(alloc, conn, number)?)
 }
 
 /// What is kept under a token, in the order in which it was written.
@@ -206,6 +187,20 @@ fn records_at<S: Alter>(
     ensures ended { conn.new.in_transaction ≡ false }
 {
     read_all(alloc, conn, RECORD_AT, params![number])
+}
+
+fn packs_at<S: Alter>(
+    alloc: Global,
+    conn: &mut Connection<S>,
+    number: u32,
+) -> Result<Vec<PackRow>, RefusalKind>
+    requires autocommit { conn.old.in_transaction ≡ false }
+    requires second { IsNoOther true (state S.Store conn.old) }
+    ensures looks { Looks (λ rows items. (items.items ≡ packs_at number rows) × (length items.items ≤ 1))
+        (state S.Store conn.old) (state S.Store conn.new) result }
+    ensures ended { conn.new.in_transaction ≡ false }
+{
+    read_all(alloc, conn, PACK_AT, params![number])
 }
 
 fn slips_at<S: Alter>(

@@ -21,7 +21,7 @@ mod version;
 pub use creating::{create, create_later_tables};
 pub use reading::{read_batches, read_rows, society};
 pub use stored::{
-    BatchRow, LineRow, LinkRow, ReceiptRow, RecordRow, SlipLineRow, SlipRow, SoughtRow, SpanRow,
-    StoredRows,
+    BatchRow, LineRow, LinkRow, PackRow, ReceiptRow, RecordRow, SlipLineRow, SlipRow, SoughtRow,
+    SpanRow, StoredRows,
 };
 pub use version::{Version, check_tables, check_version};

@@ -1,6 +1,6 @@
 //! All rows of an archive, read from its tables.
 
-ghost use Rattle.std.specs.Prelude.{◌≡◌, ◌⊎◌, Bool, List, [], ◌∷◌, false, map, IfOk, IfErr};
+ghost use Rattle.std.specs.Prelude.{◌≡◌, ◌⊎◌, Bool, List, [], ◌∷◌, true, false, map, IfOk, IfErr};
 ghost use Rattle.std.specs.List.{AllByRecursion};
 ghost use Rattle.sqlite.specs.declared.types.Value.{Value};
 ghost use Rattle.sqlite.specs.Held.{state};
@@ -8,10 +8,17 @@ ghost use Rattle.sqlite.specs.Listing.{understood};
 ghost use Rattle.sqlite.specs.State.{CommitsShowing, HasCleanDisk, Shown, FailsToQuery, Survives};
 ghost use Rattle.sqlite.specs.Values.{bound};
 ghost use Rattle.sqlite.proofs.Callers.{IsPlain};
-ghost use Rattle.store_tables.specs.Calls.{Settled, LeavesOnly};
+ghost use Rattle.store_tables.specs.Calls.{IsNoOther, Settled, LeavesOnly};
 ghost use Rattle.store_tables.specs.Conversion.{EachWith, read_meta};
 ghost use Rattle.store_tables.specs.Looking.{IsFailure, Looks, meta_query};
-ghost use Rattle.store_tables.specs.Reading.{read_of, read_record, read_line, read_receipt, read_slip_line};
+ghost use Rattle.store_tables.specs.Reading.{
+  read_of,
+  read_record,
+  read_line,
+  read_pack,
+  read_receipt,
+  read_slip_line,
+};
 ghost use Rattle.store_tables.specs.Rows.{Rows};
 ghost use Rattle.store_tables.specs.Schema.{archive_schema};
 ghost use Rattle.store_tables.specs.Prepared.{
@@ -19,6 +26,7 @@ ghost use Rattle.store_tables.specs.Prepared.{
   batch_query,
   record_query,
   line_query,
+  pack_query,
   receipt_query,
   slip_query,
   slip_line_query,
@@ -28,7 +36,9 @@ ghost use Rattle.store_tables.specs.Showing.{
   ShowsEach,
   ShowsHistory,
   ShowsLine,
+  ShowsLines,
   ShowsMeta,
+  ShowsPack,
   ShowsRead,
   ShowsReceipt,
   ShowsRecord,
@@ -38,7 +48,10 @@ ghost use Rattle.store_tables.specs.Showing.{
 };
 ghost use Rattle.store_tables.specs.Telling.{tells_no_archive};
 
-use crate::stored::{BatchRow, LineRow, ReceiptRow, RecordRow, SlipLineRow, SlipRow, StoredRows};
+use crate::connection::is_second;
+use crate::stored::{
+    BatchRow, LineRow, PackRow, ReceiptRow, RecordRow, SlipLineRow, SlipRow, StoredRows,
+};
 use crate::typing::{FromRow, Meta, from_rows, only};
 use record_text::{RefusalKind, Text};
 use sqlite::types::ValueRef;
@@ -53,7 +66,10 @@ pub(crate) const SELECT_BATCHES: &str = "SELECT no, is_open FROM batch ORDER BY 
 
 pub(crate) const SELECT_RECORDS: &str = "SELECT no, batch FROM record ORDER BY no";
 
-pub(crate) const SELECT_LINES: &str = "SELECT no, depth, tag, text, dst FROM line ORDER BY id";
+// Under the first schema the lines in the order in which they were written.
+pub(crate) const SELECT_LINES: &str = "SELECT no, depth, tag, text, dst FROM line ORDER BY rowid";
+
+pub(crate) const SELECT_PACKS: &str = "SELECT no, tag, text, dst FROM line ORDER BY no";
 
 pub(crate) const SELECT_RECEIPTS: &str =
     "SELECT token, digest, first, count FROM receipt ORDER BY id";
@@ -73,18 +89,20 @@ pub fn read_rows<S: Alter>(
     ensures looks { Looks (λ rows read. read ≡ read_of rows) (state S.Store conn.old) (state S.Store conn.new) result }
     ensures shown { HasCleanDisk (state S.Store conn.new) → (has_spans : Bool)
         → (state S.Store conn.old).now.schema ≡ archive_schema has_spans
-        → IfOk result (λ read. ShowsRead read
+        → IfOk result (λ read. ShowsRead has_spans read
         (state S.Store conn.old) (state S.Store conn.new)) }
     ensures ended { conn.new.in_transaction ≡ false }
 {
     let meta = read_meta(alloc, conn)?;
-    let (batches, records, lines) = read_records_by_batch(alloc, conn)?;
+    let (batches, records) = read_records_by_batch(alloc, conn)?;
+    let (lines, packs) = read_stored(alloc, conn)?;
     let (receipts, slips, slip_lines) = read_history(alloc, conn)?;
     Ok(StoredRows {
         next: meta.next,
         batches,
         records,
         lines,
+        packs,
         receipts,
         slips,
         slip_lines,
@@ -117,25 +135,46 @@ pub(crate) fn read_meta<S: Alter>(
     only(read_meta_rows(alloc, conn)?)
 }
 
-/// The batches, the records and their lines.
+/// The batches and the records.
 fn read_records_by_batch<S: Alter>(
     alloc: Global,
     conn: &mut Connection<S>,
-) -> Result<(Vec<BatchRow>, Vec<RecordRow>, Vec<LineRow>), RefusalKind>
+) -> Result<(Vec<BatchRow>, Vec<RecordRow>), RefusalKind>
     requires autocommit { conn.old.in_transaction ≡ false }
-    ensures looks { Looks (λ rows all. (all.0.items ≡ rows.batches) × (all.1.items ≡ map read_record rows.records)
-        × (all.2.items ≡ map read_line rows.lines))
+    ensures looks { Looks (λ rows all. (all.0.items ≡ rows.batches) × (all.1.items ≡ map read_record rows.records))
         (state S.Store conn.old) (state S.Store conn.new) result }
     ensures shown { HasCleanDisk (state S.Store conn.new) → (has_spans : Bool)
         → (state S.Store conn.old).now.schema ≡ archive_schema has_spans
-        → IfOk result (λ all. ShowsRecords all.0.items all.1.items all.2.items
+        → IfOk result (λ all. ShowsRecords all.0.items all.1.items
         (state S.Store conn.old) (state S.Store conn.new)) }
     ensures ended { conn.new.in_transaction ≡ false }
 {
     let batches = read_batches(alloc, conn)?;
     let records = read_records(alloc, conn)?;
-    let lines = read_lines(alloc, conn)?;
-    Ok((batches, records, lines))
+    Ok((batches, records))
+}
+
+/// The lines of the records, as the schema has them: in rows of their own, or all lines of a record in one row.
+fn read_stored<S: Alter>(
+    alloc: Global,
+    conn: &mut Connection<S>,
+) -> Result<(Vec<LineRow>, Vec<PackRow>), RefusalKind>
+    requires autocommit { conn.old.in_transaction ≡ false }
+    ensures looks { Looks (λ rows all. (all.0.items ≡ map read_line rows.lines)
+        × (all.1.items ≡ map read_pack rows.packs)) (state S.Store conn.old) (state S.Store conn.new) result }
+    ensures shown { HasCleanDisk (state S.Store conn.new) → (has_spans : Bool)
+        → (state S.Store conn.old).now.schema ≡ archive_schema has_spans
+        → IfOk result (λ all. ShowsLines has_spans all.0.items all.1.items
+        (state S.Store conn.old) (state S.Store conn.new)) }
+    ensures ended { conn.new.in_transaction ≡ false }
+{
+    if is_second(conn) {
+        let packs = read_packs(alloc, conn)?;
+        Ok((Vec::new(alloc), packs))
+    } else {
+        let lines = read_lines(alloc, conn)?;
+        Ok((lines, Vec::new(alloc)))
+    }
 }
 
 /// The receipts, the slips and their lines.
@@ -208,11 +247,13 @@ fn read_records<S: Alter>(
     read_all(alloc, conn, SELECT_RECORDS, &[])
 }
 
+/// The lines of tables that are not those of the second schema.
 fn read_lines<S: Alter>(
     alloc: Global,
     conn: &mut Connection<S>,
 ) -> Result<Vec<LineRow>, RefusalKind>
     requires autocommit { conn.old.in_transaction ≡ false }
+    requires first { IsNoOther false (state S.Store conn.old) }
     ensures looks { Looks (λ rows items. items.items ≡ map read_line rows.lines) (state S.Store conn.old)
         (state S.Store conn.new) result }
     ensures shown { HasCleanDisk (state S.Store conn.new) → (has_spans : Bool)
@@ -222,6 +263,25 @@ fn read_lines<S: Alter>(
     ensures ended { conn.new.in_transaction ≡ false }
 {
     read_all(alloc, conn, SELECT_LINES, &[])
+}
+
+/// The records with all their lines, of tables that are not those of the first schema. 40: the text of one is none
+/// that lines have.
+fn read_packs<S: Alter>(
+    alloc: Global,
+    conn: &mut Connection<S>,
+) -> Result<Vec<PackRow>, RefusalKind>
+    requires autocommit { conn.old.in_transaction ≡ false }
+    requires second { IsNoOther true (state S.Store conn.old) }
+    ensures looks { Looks (λ rows items. items.items ≡ map read_pack rows.packs) (state S.Store conn.old)
+        (state S.Store conn.new) result }
+    ensures shown { HasCleanDisk (state S.Store conn.new) → (has_spans : Bool)
+        → (state S.Store conn.old).now.schema ≡ archive_schema has_spans
+        → IfOk result (λ items. ShowsEach pack_query ShowsPack (state S.Store conn.old)
+        (state S.Store conn.new) items.items) }
+    ensures ended { conn.new.in_transaction ≡ false }
+{
+    read_all(alloc, conn, SELECT_PACKS, &[])
 }
 
 fn read_receipts<S: Alter>(

@@ -11,7 +11,6 @@ ghost use Rattle.store_tables.specs.Rows.{
   with_batch,
   with_record_row,
   without_record_row,
-  with_line,
   without_lines,
   with_receipt,
   with_slip_row,
@@ -94,31 +93,6 @@ pub fn delete_record<S: Alter>(tx: &mut Transaction<'_, S>, number: u32) -> Resu
     Ok(())
 }
 
-/// The stored line of a record at a place.
-pub fn insert_line<S: Alter>(
-    tx: &mut Transaction<'_, S>,
-    number: u32,
-    at: u32,
-    line: &StoredLine,
-) -> Result<(), Error>
-    ensures same_reference { tx.new.conn.ghost_name ≡ tx.old.conn.ghost_name }
-    ensures ok { Writes (state S.Store tx.old.conn.now) (state S.Store tx.new.conn.now)
-        result (with_line number at line.now) }
-    ensures survives { LeavesAsBefore (state S.Store tx.old.conn.now) (state S.Store tx.new.conn.now) }
-{
-    let (depth, tag, text, target) = (
-        line.depth,
-        line.tag.as_str(),
-        words(&line.text),
-        named(line.target),
-    );
-    tx.execute(
-        "INSERT INTO line (no, pos, depth, tag, text, dst) VALUES (?1, ?2, ?3, ?4, ?5, ?6)",
-        params![number, at, depth, tag, text, target],
-    )?;
-    Ok(())
-}
-
 /// The text of a line as words, where it has one.
 fn words(text: &Option<Text>) -> Option<&str>
     ensures same { option_copied result ≡ text.now }
@@ -131,7 +105,7 @@ fn words(text: &Option<Text>) -> Option<&str>
 }
 
 /// The number that a line names, where it names one.
-fn named(target: Option<u32>) -> Option<u32>
+pub(crate) fn named(target: Option<u32>) -> Option<u32>
     ensures same { result ≡ target }
     ensures number { IfSome target IsU32 }
 {

@@ -38,7 +38,7 @@ impl Model for RecordRow {
     ghost view = { λ a. (a.number, a.batch) };
 }
 
-/// A stored line with the number of its record.
+/// A stored line in a row of its own, with the number of its record.
 #[derive(Drop)]
 pub struct LineRow {
     pub number: u32,
@@ -55,6 +55,25 @@ impl Model for LineRow {
     ghost coded = { coded× coded_ℕ (coded× coded_ℕ label_code) };
 
     ghost view = { λ a. (a.number, a.line) };
+}
+
+/// The number of a record, and all its stored lines.
+#[derive(Drop)]
+pub struct PackRow {
+    pub number: u32,
+    pub lines: Vec<StoredLine>,
+}
+
+impl Model for PackRow {
+    ghost use Rattle.std.specs.Prelude.{ℕ, List};
+    ghost use Rattle.std.specs.Coded.{coded×, coded_ℕ, coded_list};
+    ghost use Rattle.stored_lines.specs.Line.{Label, label_code};
+
+    ghost Value = { ℕ × List (ℕ × Label) };
+
+    ghost coded = { coded× coded_ℕ (coded_list (coded× coded_ℕ label_code)) };
+
+    ghost view = { λ a. (a.number, a.lines.items) };
 }
 
 /// What is kept under a token.
@@ -158,13 +177,15 @@ impl Model for SoughtRow {
     ghost view = { λ a. record { no = a.number; text = a.text; target = a.target } };
 }
 
-/// All rows of an archive but its spans, its links and what is looked for, in the order of their keys.
+/// All rows of an archive but its spans, its links and what is looked for, in the order of their keys. Lines are in
+/// rows of their own in the first schema, and in `packs` in the second one.
 #[derive(Drop)]
 pub struct StoredRows {
     pub next: u64,
     pub batches: Vec<BatchRow>,
     pub records: Vec<RecordRow>,
     pub lines: Vec<LineRow>,
+    pub packs: Vec<PackRow>,
     pub receipts: Vec<ReceiptRow>,
     pub slips: Vec<SlipRow>,
     pub slip_lines: Vec<SlipLineRow>,
@@ -180,6 +201,7 @@ impl Model for StoredRows {
       batches = a.batches.items;
       records = a.records.items;
       lines = a.lines.items;
+      packs = a.packs.items;
       receipts = a.receipts.items;
       slips = a.slips.items;
       slip_lines = a.slip_lines.items;

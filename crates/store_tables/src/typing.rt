@@ -22,9 +22,12 @@ ghost use Rattle.sqlite.specs.declared.types.Value.{Value};
 ghost use Rattle.sqlite.specs.declared.types.Value.TheVariants.{Int, Text as Words, Blob};
 ghost use Rattle.sqlite.specs.Order.{column};
 ghost use Rattle.record_text.specs.Text.{IsTag, IsText};
+ghost use Rattle.stored_lines.specs.Line.{Label};
 ghost use Rattle.receipts.specs.Tokens.{IsToken};
 ghost use Rattle.store_tables.specs.Conversion.{
   FailsUnless,
+  HasPack,
+  IsPackReadAs,
   read_meta,
   IsReadAs,
   ShowsTyped,
@@ -36,6 +39,7 @@ ghost use Rattle.store_tables.specs.Reading.{
   IsU32,
   IsTypedLine,
   IsTypedLink,
+  IsTypedPack,
   IsTypedReceipt,
   IsTypedSlip,
   IsTypedSought,
@@ -48,11 +52,11 @@ ghost use Rattle.store_tables.specs.Reading.{
 };
 ghost use Rattle.store_tables.specs.Showing.{
   ShowsBatch,
-  ShowsFields,
   ShowsLine,
   ShowsLink,
   ShowsMeta,
   ShowsNumber,
+  ShowsPack,
   ShowsReceipt,
   ShowsRecord,
   ShowsSlip,
@@ -61,13 +65,14 @@ ghost use Rattle.store_tables.specs.Showing.{
   ShowsSpan,
 };
 ghost use Rattle.store_tables.specs.Rows as rows;
-ghost use Rattle.store_tables.specs.Rows.{line_fields, words_or_null};
+ghost use Rattle.store_tables.specs.Rows.{words_or_null};
 ghost use Rattle.store_tables.specs.Shown.{
   shown_meta,
   shown_batch,
   shown_record,
   shown_line,
   shown_link,
+  shown_pack,
   shown_receipt,
   shown_slip,
   shown_slip_line,
@@ -77,8 +82,10 @@ ghost use Rattle.store_tables.specs.Shown.{
 
 use crate::pairs::pair_of;
 use crate::stored::{
-    BatchRow, LineRow, LinkRow, ReceiptRow, RecordRow, SlipLineRow, SlipRow, SoughtRow, SpanRow,
+    BatchRow, LineRow, LinkRow, PackRow, ReceiptRow, RecordRow, SlipLineRow, SlipRow, SoughtRow,
+    SpanRow,
 };
+use packed_lines::unpack;
 use receipts::{Answer, Receipt, Token};
 use record_text::{RefusalKind, Tag, Text};
 use sqlite::types::FromSql;
@@ -94,7 +101,7 @@ pub(crate) trait FromRow: Drop {
     ghost is_readable: { List Value → Type 0 };
 
     /// The values of the row. `BadStored`: one is not of its type.
-    fn from_row(row: &Row) -> Result<Self, RefusalKind>
+    fn from_row(alloc: Global, row: &Row) -> Result<Self, RefusalKind>
         ensures ok { IfOk result (reads_as row.now) }
         ensures err { IfErr result (FailsUnless (is_readable row.now)) };
 }
@@ -107,7 +114,7 @@ pub(crate) fn from_rows<T: FromRow>(alloc: Global, rows: Vec<Row>) -> Result<Vec
     let mut items = Vec::new(alloc);
     let mut rows = rows.into_iter();
     'rows: while let Some(row) = rows.next() {
-        push(&mut items, T::from_row(&row)?)?;
+        push(&mut items, T::from_row(alloc, &row)?)?;
     }
     Ok(items)
 }
@@ -228,12 +235,25 @@ fn line_at(row: &Row, at: usize) -> Result<StoredLine, RefusalKind>
     })
 }
 
+/// The lines of a record that the last three columns show: the first one's tag, their text, and the number that the
+/// first one names.
+fn unpacked(alloc: Global, row: &Row) -> Result<Vec<StoredLine>, RefusalKind>
+    ensures ok { IfOk result (λ lines. HasPack row.now lines.items) }
+    ensures err { IfErr result (FailsUnless ((3 < length row.now) × (lines : List (ℕ × Label))
+        × HasPack row.now lines)) }
+{
+    let tag = tag_at(row, 1)?;
+    let text: String = value(row, 2)?;
+    let target = value(row, 3)?;
+    unpack(alloc, tag, target, &text)
+}
+
 impl FromRow for BatchRow {
     ghost reads_as = { IsReadAs shown_batch (λ (b : rows.BatchRow). b) ShowsBatch };
 
     ghost is_readable = { ShowsTyped shown_batch (λ (b : rows.BatchRow). IsU32 b.no) };
 
-    fn from_row(row: &Row) -> Result<BatchRow, RefusalKind> {
+    fn from_row(_alloc: Global, row: &Row) -> Result<BatchRow, RefusalKind> {
         Ok(BatchRow {
             number: value(row, 0)?,
             is_open: value(row, 1)?,
@@ -246,7 +266,7 @@ impl FromRow for RecordRow {
 
     ghost is_readable = { ShowsTyped shown_record (λ (r : rows.RecordRow). IsU32 r.no × IsU32 r.batch) };
 
-    fn from_row(row: &Row) -> Result<RecordRow, RefusalKind> {
+    fn from_row(_alloc: Global, row: &Row) -> Result<RecordRow, RefusalKind> {
         Ok(RecordRow {
             number: value(row, 0)?,
             batch: value(row, 1)?,
@@ -259,7 +279,7 @@ impl FromRow for LineRow {
 
     ghost is_readable = { ShowsTyped shown_line (λ (l : rows.LineRow). IsU32 l.no × IsTypedLine l.line) };
 
-    fn from_row(row: &Row) -> Result<LineRow, RefusalKind> {
+    fn from_row(_alloc: Global, row: &Row) -> Result<LineRow, RefusalKind> {
         Ok(LineRow {
             number: value(row, 0)?,
             line: line_at(row, 1)?,
@@ -267,14 +287,15 @@ impl FromRow for LineRow {
     }
 }
 
-impl FromRow for StoredLine {
-    ghost reads_as = { IsReadAs (λ (l : rows.LineRow). line_fields l.line) (λ (l : rows.LineRow). l.line) ShowsFields };
+impl FromRow for PackRow {
+    ghost reads_as = { IsPackReadAs ShowsPack };
 
-    ghost is_readable = { ShowsTyped (λ (l : rows.LineRow). line_fields l.line)
-        (λ (l : rows.LineRow). IsTypedLine l.line) };
+    ghost is_readable = { ShowsTyped shown_pack IsTypedPack };
 
-    fn from_row(row: &Row) -> Result<StoredLine, RefusalKind> {
-        line_at(row, 0)
+    fn from_row(alloc: Global, row: &Row) -> Result<PackRow, RefusalKind> {
+        let number = value(row, 0)?;
+        let lines = unpacked(alloc, row)?;
+        Ok(PackRow { number, lines })
     }
 }
 
@@ -283,7 +304,7 @@ impl FromRow for u32 {
 
     ghost is_readable = { ShowsTyped (λ (l : rows.LineRow). Int (pos l.no) ∷ []) (λ (l : rows.LineRow). IsU32 l.no) };
 
-    fn from_row(row: &Row) -> Result<u32, RefusalKind> {
+    fn from_row(_alloc: Global, row: &Row) -> Result<u32, RefusalKind> {
         value(row, 0)
     }
 }
@@ -294,7 +315,7 @@ impl FromRow for ReceiptRow {
     ghost is_readable = { ShowsTyped shown_receipt (λ (r : rows.ReceiptRow). IsToken r.token
         × IsTypedReceipt r.receipt) };
 
-    fn from_row(row: &Row) -> Result<ReceiptRow, RefusalKind> {
+    fn from_row(_alloc: Global, row: &Row) -> Result<ReceiptRow, RefusalKind> {
         let token = token_at(row, 0)?;
         let digest = digest_at(row, 1)?;
         let answer = Answer {
@@ -311,7 +332,7 @@ impl FromRow for SlipRow {
 
     ghost is_readable = { ShowsTyped shown_slip IsTypedSlip };
 
-    fn from_row(row: &Row) -> Result<SlipRow, RefusalKind> {
+    fn from_row(_alloc: Global, row: &Row) -> Result<SlipRow, RefusalKind> {
         Ok(SlipRow {
             number: value(row, 0)?,
             keep: value(row, 1)?,
@@ -327,7 +348,7 @@ impl FromRow for SlipLineRow {
     ghost is_readable = { ShowsTyped shown_slip_line (λ (s : rows.SlipLineRow). IsU32 s.slip × IsU32 s.no
         × IsTypedLine s.line) };
 
-    fn from_row(row: &Row) -> Result<SlipLineRow, RefusalKind> {
+    fn from_row(_alloc: Global, row: &Row) -> Result<SlipLineRow, RefusalKind> {
         Ok(SlipLineRow {
             slip: value(row, 0)?,
             is_new: value(row, 1)?,
@@ -342,7 +363,7 @@ impl FromRow for SpanRow {
 
     ghost is_readable = { ShowsTyped shown_span IsTypedSpan };
 
-    fn from_row(row: &Row) -> Result<SpanRow, RefusalKind> {
+    fn from_row(_alloc: Global, row: &Row) -> Result<SpanRow, RefusalKind> {
         Ok(SpanRow {
             number: value(row, 0)?,
             lo: value(row, 1)?,
@@ -356,7 +377,7 @@ impl FromRow for LinkRow {
 
     ghost is_readable = { ShowsTyped shown_link IsTypedLink };
 
-    fn from_row(row: &Row) -> Result<LinkRow, RefusalKind> {
+    fn from_row(_alloc: Global, row: &Row) -> Result<LinkRow, RefusalKind> {
         Ok(pair_of(value(row, 0)?))
     }
 }
@@ -366,7 +387,7 @@ impl FromRow for SoughtRow {
 
     ghost is_readable = { ShowsTyped shown_sought IsTypedSought };
 
-    fn from_row(row: &Row) -> Result<SoughtRow, RefusalKind> {
+    fn from_row(_alloc: Global, row: &Row) -> Result<SoughtRow, RefusalKind> {
         Ok(SoughtRow {
             number: value(row, 0)?,
             text: text_at(row, 1)?,
@@ -398,7 +419,7 @@ impl FromRow for Meta {
 
     ghost is_readable = { ShowsTyped shown_meta (λ (r : rows.Rows). IsText r.society) };
 
-    fn from_row(row: &Row) -> Result<Meta, RefusalKind> {
+    fn from_row(_alloc: Global, row: &Row) -> Result<Meta, RefusalKind> {
         Ok(Meta {
             next: value(row, 1)?,
             society: text_at(row, 2)?,

@@ -17,6 +17,7 @@ ghost use Rattle.store_tables.specs.Looking.{
 ghost use Rattle.store_tables.specs.Prepared.{
   PreparesAll,
   all_queries,
+  drawn_queries,
   queries_of,
   history_queries,
   later_queries,
@@ -29,8 +30,8 @@ ghost use Rattle.store_tables.specs.Telling.{tells_no_archive};
 
 use crate::links::SELECT_LINKS;
 use crate::reading::{
-    SELECT_BATCHES, SELECT_LINES, SELECT_META, SELECT_RECEIPTS, SELECT_RECORDS, SELECT_SLIP_LINES,
-    SELECT_SLIPS, ask,
+    SELECT_BATCHES, SELECT_LINES, SELECT_META, SELECT_PACKS, SELECT_RECEIPTS, SELECT_RECORDS,
+    SELECT_SLIP_LINES, SELECT_SLIPS, ask,
 };
 use crate::soughts::SELECT_SOUGHTS;
 use crate::spans::SELECT_SPANS;
@@ -41,7 +42,8 @@ use sqlite_resolve::CompileError;
 /// The version of an archive's tables.
 #[derive(Clone, Copy, Debug, PartialEq, Eq)]
 pub enum Version {
-    /// Its dates are read by the grammar before French Republican dates, and it has no table of spans.
+    /// Its dates are read by the grammar before French Republican dates, its lines have rows of their own, and it has
+    /// no table of spans.
     First,
     /// The version that this program writes.
     Second,
@@ -102,7 +104,7 @@ pub fn check_tables<S: Alter>(conn: &mut Connection<S>, version: Version) -> Res
 {
     prepare_all(conn)?;
     match version {
-        Version::First => Ok(()),
+        Version::First => prepare(conn, SELECT_LINES),
         Version::Second => prepare_later(conn),
     }
 }
@@ -123,8 +125,7 @@ fn prepare_records<S: Alter>(conn: &mut Connection<S>) -> Result<(), RefusalKind
     ensures ended { conn.new.in_transaction ≡ false }
 {
     prepare(conn, SELECT_BATCHES)?;
-    prepare(conn, SELECT_RECORDS)?;
-    prepare(conn, SELECT_LINES)
+    prepare(conn, SELECT_RECORDS)
 }
 
 fn prepare_history<S: Alter>(conn: &mut Connection<S>) -> Result<(), RefusalKind>
@@ -140,6 +141,15 @@ fn prepare_history<S: Alter>(conn: &mut Connection<S>) -> Result<(), RefusalKind
 fn prepare_later<S: Alter>(conn: &mut Connection<S>) -> Result<(), RefusalKind>
     requires autocommit { conn.old.in_transaction ≡ false }
     ensures told { PreparesAll later_queries (state S.Store conn.old) (state S.Store conn.new) result }
+    ensures ended { conn.new.in_transaction ≡ false }
+{
+    prepare(conn, SELECT_PACKS)?;
+    prepare_drawn(conn)
+}
+
+fn prepare_drawn<S: Alter>(conn: &mut Connection<S>) -> Result<(), RefusalKind>
+    requires autocommit { conn.old.in_transaction ≡ false }
+    ensures told { PreparesAll drawn_queries (state S.Store conn.old) (state S.Store conn.new) result }
     ensures ended { conn.new.in_transaction ≡ false }
 {
     prepare(conn, SELECT_SPANS)?;

@@ -14,7 +14,7 @@ const LINE: usize = 64;
 pub(crate) struct ProgressLines<'a, C: Clock, F: Write + Device> {
     clock: &'a C,
     faults: &'a mut F,
-    /// None where no import was begun, or memory was refused to count its rows; nothing is told then.
+    /// None where no import was begun; nothing is told then.
     rows: Option<RowCount>,
     /// When the last line was written, or the import was begun.
     last: Option<Instant>,
@@ -59,8 +59,8 @@ impl<'a, C: Clock, F: Write + Device> ProgressLines<'a, C, F> {
 }
 
 impl<'a, C: Clock, F: Write + Device> Progress for ProgressLines<'a, C, F> {
-    fn begun(&mut self, alloc: Global, import: &OpenImport) {
-        self.rows = RowCount::new(alloc, import).ok();
+    fn begun(&mut self, _alloc: Global, import: &OpenImport) {
+        self.rows = Some(RowCount::new(import));
         self.last = Instant::now(self.clock).ok();
         if !import.has_more() {
             self.tell();

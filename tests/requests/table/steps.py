@@ -16,7 +16,7 @@ def forest(*lines: str) -> str:
 
 
 def persons(count: int, *below: str) -> str:
-    """Persons, each with the same lines below it. One alone has two rows: its own, and its first line."""
+    """Persons, each with the same lines below it. One has two rows, of `record` and of `line`, whatever is below it."""
     return forest(*(line for number in range(count) for line in (f"0 @I{number}@ INDI", *below)))
 
 
@@ -57,8 +57,8 @@ SCENARIOS = (
         "steps: 600 persons with a name",
         STORE,
         steps(
-            "begin stage stage stage stage stage stage stage publish stage publish",
-            [NONE, *7 * [MORE], 86, NONE, "1 600"],
+            "begin stage stage stage stage publish stage publish",
+            [NONE, *4 * [MORE], 86, NONE, "1 600"],
             NAMED,
         ),
     ),

@@ -2,7 +2,8 @@
 
 from __future__ import annotations
 
-from beside import LATER, link_of
+from beside import LATER, Line, links_of
+from packed import COLUMNS, literal, values_of
 from table import again, entries, merging, order, worked
 from table.making import (
     FAMILY,
@@ -27,8 +28,43 @@ STORE = ask("! store,Lee", "ok")
 # Persons 1 and 2, family 3 and event 4, in files too.
 STORED = [STORE, *FAMILY]
 
-# An archive becomes one of the first version.
-FIRST = "UPDATE meta SET version = 1" + "".join(f"; DROP TABLE {name}" for name in LATER)
+# What these four are kept as.
+KEPT = {
+    1: [(0, "person", None, None), (1, "name", "Tom /Lee/", None)],
+    2: [(0, "person", None, None), (1, "name", "Ann /Lee/", None)],
+    3: [(0, "family", None, None), (1, "partner", "wife", 1)],
+    4: [(0, "event", None, 3), (1, "DIV", "", None), (1, "date", "1700", None)],
+}
+
+
+def of_text(text: str | None) -> str:
+    """A text of a line as a value of SQL."""
+    return "NULL" if text is None else literal(text)
+
+
+def of_number(number: int | None) -> str:
+    return "NULL" if number is None else str(number)
+
+
+# An archive of these four becomes one of the first version, in which each line has a row.
+FIRST_LINE = (
+    "CREATE TABLE line (id INTEGER PRIMARY KEY, no INTEGER NOT NULL REFERENCES record (no) ON DELETE RESTRICT, "
+    "pos INTEGER NOT NULL, depth INTEGER NOT NULL, tag TEXT NOT NULL, text TEXT, dst INTEGER REFERENCES record (no) "
+    "ON DELETE RESTRICT) STRICT"
+)
+FIRST = "; ".join((
+    "UPDATE meta SET version = 1",
+    *(f"DROP TABLE {name}" for name in ("line", *LATER)),
+    FIRST_LINE,
+    "CREATE INDEX line_by_record ON line (no)",
+    "CREATE INDEX line_by_target ON line (dst)",
+    "CREATE INDEX line_by_text ON line (text, dst)",
+    *(
+        f"INSERT INTO line ({COLUMNS}) VALUES ({number}, {at}, {depth}, '{tag}', {of_text(text)}, {of_number(named)})"
+        for number, lines in KEPT.items()
+        for at, (depth, tag, text, named) in enumerate(lines)
+    ),
+))
 
 META = "CREATE TABLE meta (one INTEGER PRIMARY KEY, version INTEGER, next INTEGER, society TEXT)"
 
@@ -57,13 +93,10 @@ def spoils(statements: str, *told: str | int):
     return given.encode(), row("spoil", *told).encode()
 
 
-def lines(*values: str) -> str:
-    """Statements that put lines behind those that are there, each as number, place, depth, tag, text and target, and
-    the links of those that name a number."""
-    put = "; INSERT INTO line (no, pos, depth, tag, text, dst) VALUES " + ", ".join(f"({one})" for one in values)
-    ends = [(one.split(", ")[0], one.split(", ")[-1]) for one in values]
-    keys = [link_of(int(number), int(named)) for number, named in ends if named != "NULL"]
-    return put + "".join(f"; INSERT OR IGNORE INTO link VALUES ({key})" for key in keys)
+def put(number: int, *lines: Line) -> str:
+    """Statements that give a record these lines and no others, and its links."""
+    row = f"; DELETE FROM line WHERE no = {number}; INSERT INTO line ({COLUMNS}) VALUES {values_of(number, lines)}"
+    return row + "".join(f"; INSERT OR IGNORE INTO link VALUES ({key})" for key in links_of(number, lines))
 
 
 def with_made(statements: str, request: tuple[str | int, ...], *told: str | int):
@@ -75,21 +108,33 @@ def with_made(statements: str, request: tuple[str | int, ...], *told: str | int)
 # What stands at number 6, where source 5 is the last record: an entry of source 5 that is linked to person 2 for no
 # reason, the same with a word that is no role, another record that points to itself, one that points to source 5, and
 # slips.
-ENTRY = "INSERT INTO record VALUES (6, 'entry', 0); UPDATE meta SET next = 7" + lines(
-    "6, 0, 0, 'entry', 'BURIAL', NULL",
-    "6, 1, 1, 'key', '1 f. 3', 5",
-    "6, 2, 1, 'page', 'f. 3', NULL",
-    "6, 3, 1, 'item', '1', NULL",
-    "6, 4, 1, 'text', 'Ann', NULL",
-    "6, 5, 1, 'mention', 'Ann', 2",
-    "6, 6, 2, 'role', 'buried', NULL",
-    "6, 7, 2, 'reason', '', NULL",
-) + "; INSERT INTO sought VALUES (6, '1 f. 3', 5)"
-NO_ENTRY = ENTRY + "; UPDATE line SET text = 'widow' WHERE tag = 'role'"
-OTHER = "INSERT INTO record VALUES (6, 'other', 0); UPDATE meta SET next = 7" + lines("6, 0, 0, 'other', NULL, NULL")
-OF_ITSELF = OTHER + lines("6, 1, 1, 'NOTE', NULL, 6")
-OF_A_SOURCE = OTHER + lines("6, 1, 1, 'NOTE', NULL, 5")
-CARRIED_BY_ANN = "UPDATE meta SET next = 7" + lines("2, 2, 1, 'carried', NULL, NULL", "2, 3, 2, 'NOTE', NULL, 5")
+MADE = "INSERT INTO record VALUES (6, '{}', 0); UPDATE meta SET next = 7"
+
+
+def an_entry(role: str) -> str:
+    lines = (
+        (0, "entry", "BURIAL", None),
+        (1, "key", "1 f. 3", 5),
+        (1, "page", "f. 3", None),
+        (1, "item", "1", None),
+        (1, "text", "Ann", None),
+        (1, "mention", "Ann", 2),
+        (2, "role", role, None),
+        (2, "reason", "", None),
+    )
+    return MADE.format("entry") + put(6, *lines) + "; INSERT INTO sought VALUES (6, '1 f. 3', 5)"
+
+
+def another(text: str | None, named: int | None) -> str:
+    return MADE.format("other") + put(6, (0, "other", None, None), (1, "NOTE", text, named))
+
+
+ENTRY = an_entry("buried")
+NO_ENTRY = an_entry("widow")
+OTHER = another("x", None)
+OF_ITSELF = another(None, 6)
+OF_A_SOURCE = another(None, 5)
+CARRIED_BY_ANN = "UPDATE meta SET next = 7" + put(2, *KEPT[2], (1, "carried", None, None), (2, "NOTE", None, 5))
 SLIP = "INSERT INTO slip VALUES (6, 1, 2, 0); UPDATE meta SET next = 7"
 
 
@@ -252,7 +297,7 @@ SCENARIOS = OTHERS + (
         with_made(NO_ENTRY, ("unlink", 6, 1), 40, 40, 40, "ok"),
         with_made(NO_ENTRY, entry(5, "BURIAL"), 40, 40, 40, "ok"),
         with_made(NO_ENTRY, entry(5, "BURIAL", "f. 4"), "ok", "ok", 40, "ok"),
-        with_made(OTHER + lines("6, 1, 1, 'NOTE', 'x', NULL"), ("citation", 6, 5, "", ""), 51, 51, "ok", "ok"),
+        with_made(OTHER, ("citation", 6, 5, "", ""), 51, 51, "ok", "ok"),
         with_made(OF_ITSELF, ("link", 6, 1, 1, "same age"), 51, 51, "ok", "ok"),
         with_made(OF_ITSELF, ("unlink", 6, 1), 51, 51, "ok", "ok"),
         with_made(OF_ITSELF, entry(6), 51, 51, "ok", "ok"),
@@ -367,7 +412,10 @@ SCENARIOS = OTHERS + (
         spoils("DELETE FROM meta", "unadopted", 82),
         spoils("DROP TABLE receipt", "unadopted", 82),
         spoils("DELETE FROM line", 40, 40, 40, "ok"),
-        spoils("UPDATE line SET depth = 9 WHERE depth = 1", 40, 40, 40, "ok"),
+        spoils("UPDATE line SET text = '\n9 name Ann /Lee/\n'", 40, 40, 40, "ok"),
+        spoils("UPDATE line SET text = '\n1 name Ann /Lee/' WHERE no = 1", 40, 40, 40, "ok"),
+        spoils("UPDATE line SET text = '\n01 name Ann /Lee/\n' WHERE no = 2", "ok", "ok", 40, "ok"),
+        spoils("UPDATE line SET depth = 9, pos = 7", "ok", "ok", "ok", "ok"),
         spoils("DELETE FROM line WHERE no = 2", "ok", "ok", 40, "ok"),
         SAME,
     ),

@@ -112,7 +112,7 @@ fn put_lines_of<S: Alter>(
     ensures shallow { OnOk result (IsShallow «record».now) }
 {
     let lines = lines_of(alloc, record)?;
-    change_lines(tx, number, &lines)?;
+    change_lines(alloc, tx, number, &lines)?;
     Ok(())
 }
 

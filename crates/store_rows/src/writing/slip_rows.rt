@@ -20,7 +20,7 @@ ghost use Rattle.store_rows.specs.Writing.{
 use super::Unwritten;
 use archive_state::{Change, Slip, SlipChange};
 use records::{Record, lines_of};
-use sqlite::{Alter, Error, Transaction};
+use sqlite::{Alter, Transaction};
 use std::alloc::Global;
 use store_tables::lines::insert_slip_lines;
 use store_tables::records::undo_slip;

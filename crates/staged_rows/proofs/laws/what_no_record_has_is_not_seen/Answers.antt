@@ -1,8 +1,19 @@
-use Rattle.staged_rows.proofs.Removed.{batch_gone, lines_gone, link_gone, record_gone, sought_gone, span_gone}
+use Rattle.staged_rows.proofs.Removed.{
+  batch_gone,
+  lines_gone,
+  link_gone,
+  packs_gone,
+  record_gone,
+  sought_gone,
+  span_gone,
+}
 use Rattle.staged_rows.proofs.laws.what_no_record_has_is_not_seen.Goals as goal
 
 pub returns-clause-lines : goal.returns-clause-lines
 returns-clause-lines c = lines_gone
+
+pub returns-clause-packs : goal.returns-clause-packs
+returns-clause-packs c = packs_gone
 
 pub returns-clause-spans : goal.returns-clause-spans
 returns-clause-spans c = span_gone

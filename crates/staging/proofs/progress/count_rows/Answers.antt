@@ -1,14 +1,15 @@
-use Rattle.staging.proofs.Counting.{all_counted, next_counted}
+use Rattle.std.proofs.Common.{◌≡◌, ◌+◌, ap, arith, length, min, ◌^◌, ◌-◌, ◌∙◌}
+use Rattle.staging.proofs.Counting.{all_counted, later_count, sum_stops}
 use Rattle.staging.proofs.progress.count_rows.Goals as goal
-
-pub puts-preserved : goal.puts-preserved
-puts-preserved c =
-    next_counted c.args.puts.now c.puts.put-index c.put-item.result c.puts.count c.in_ok-count_lines.field-0
-    c.saturating_add-count.result _ c.puts-test.true c.put-item.is c.in_ok-count_lines.ensures
-    c.saturating_add-count.ensures c.puts.invariant
 
 pub returns : goal.returns
 returns c batch drawn other =
-    all_counted batch c.args.puts.now c.args.later.now drawn c.puts.put-index c.puts.count
-    c.count_later.result _ c.requires.later other c.puts-test.false c.puts.invariant
-    c.count_later.ensures
+    let later = c.args.later.now in
+    let n = length c.args.puts.now in
+    let most = 2 ^ 64 - 1 in
+    let behind : (n + n) + (c.len.result + (c.len-2.result + c.len-3.result)) ≡ (n + n) + later_count later = omega
+    (arith, c.len.ensures, c.len-2.ensures, c.len-3.ensures) in
+    sum_stops n c.len.result c.len-2.result c.len-3.result most c.saturating_add.result c.saturating_add-2.result
+    c.saturating_add-3.result c.saturating_add-4.result c.saturating_add.ensures c.saturating_add-2.ensures
+    c.saturating_add-3.ensures c.saturating_add-4.ensures
+    ∙ ap (λ k. min k most) (behind ∙ all_counted batch c.args.puts.now later drawn c.requires.later other)

@@ -1,4 +1,4 @@
-use Rattle.std.proofs.Common.{◌≡◌, ◌++◌, [], refl, sym, ap, ◌∙◌, append_assoc, rules}
+use Rattle.std.proofs.Common.{◌≡◌, ◌++◌, [], refl, sym, ap, ◌∙◌, append_assoc, arith, rules}
 use Rattle.std.proofs.lemmas.List.{append-nil}
 use Rattle.sqlite.specs.Held.{state}
 use Rattle.store_tables.specs.Rows.{LinkRow}
@@ -16,7 +16,10 @@ links-init g c = record {
 }
 
 pub clear_links-requires : goal.clear_links-requires
-clear_links-requires g c = record { autocommit = c.links.invariant.ended }
+clear_links-requires g c = record {
+  autocommit = c.links.invariant.ended;
+  few = omega (arith, c.split_at.ensures.by_index.1, c.min.ensures);
+}
 
 pub links-preserved : goal.links-preserved
 links-preserved g c =

@@ -1,5 +1,5 @@
 -- At each turn what is in front of the rest is taken out.
-use Rattle.std.proofs.Common.{◌≡◌, ◌++◌, ℕ, List, false, length}
+use Rattle.std.proofs.Common.{◌≡◌, ◌++◌, List, false, length}
 use Rattle.sqlite.specs.Held.{state}
 use Rattle.store_tables.specs.Rows.{LinkRow}
 use Rattle.store_rows.specs.Links.{without_all_links}

@@ -1,4 +1,4 @@
-use Rattle.std.proofs.Common.{◌≡◌, ◌++◌, [], Ok, Err, refl, sym, ap, ◌∙◌, append_assoc, rules}
+use Rattle.std.proofs.Common.{◌≡◌, ◌++◌, [], Ok, Err, refl, sym, ap, ◌∙◌, append_assoc, arith, rules}
 use Rattle.sqlite.specs.Held.{state}
 use Rattle.store_rows.specs.Writing.{without_record_rows}
 use Rattle.store_tables.proofs.Queries.{only_committed}
@@ -17,7 +17,10 @@ rows-init g c = record {
 }
 
 pub clear_rows-requires : goal.clear_rows-requires
-clear_rows-requires g c = record { autocommit = c.rows.invariant.ended }
+clear_rows-requires g c = record {
+  autocommit = c.rows.invariant.ended;
+  few = omega (arith, c.split_at.ensures.by_index.1, c.min.ensures);
+}
 
 pub rows-preserved : goal.rows-preserved
 rows-preserved g c =

@@ -1,4 +1,4 @@
-use Rattle.std.proofs.Common.{◌≡◌, ◌++◌, [], refl, sym, ap, ◌∙◌, append_assoc, rules}
+use Rattle.std.proofs.Common.{◌≡◌, ◌++◌, [], refl, sym, ap, ◌∙◌, append_assoc, arith, rules}
 use Rattle.std.proofs.lemmas.List.{append-nil}
 use Rattle.sqlite.specs.Held.{state}
 use Rattle.store_tables.proofs.Queries.{only_committed}
@@ -15,7 +15,10 @@ spans-init g c = record {
 }
 
 pub clear_spans-requires : goal.clear_spans-requires
-clear_spans-requires g c = record { autocommit = c.spans.invariant.ended }
+clear_spans-requires g c = record {
+  autocommit = c.spans.invariant.ended;
+  few = omega (arith, c.split_at.ensures.by_index.1, c.min.ensures);
+}
 
 pub spans-preserved : goal.spans-preserved
 spans-preserved g c =

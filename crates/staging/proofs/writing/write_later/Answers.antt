@@ -1,17 +1,10 @@
-use Rattle.std.proofs.Common.{◌≡◌, ◌<◌, ◌≤◌, ap, arith, drop, length, map, subst, take, ◌∙◌}
+use Rattle.std.proofs.Common.{◌<◌, ◌≤◌, ap, arith, drop, length, map, subst, take, ◌∙◌}
 use Rattle.sqlite.specs.Held.{state}
 use Rattle.store_tables.specs.Calls.{FollowsDated}
 use Rattle.store_tables.proofs.Calls.{on_ok}
 use Rattle.staged_rows.specs.Staging.{a_link, with_staged}
 use Rattle.staging.specs.Opened.{FollowsStaged, later_left, row_of_sought_row, row_of_span}
-use Rattle.staging.proofs.Cursors.{
-  link_behind,
-  link_written,
-  sought_behind,
-  sought_written,
-  span_behind,
-  span_written,
-}
+use Rattle.staging.proofs.Cursors.{link_behind, link_written, sought_behind, sought_written, span_written}
 use Rattle.staging.proofs.writing.write_later.Goals as goal
 
 -- a link

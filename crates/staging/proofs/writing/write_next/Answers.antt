@@ -1,13 +1,13 @@
 use Rattle.std.proofs.Common.{◌≡◌, length, get_or, subst}
 use Rattle.std.specs.Prelude.{IfSome}
 use Rattle.sqlite.specs.Held.{state}
-use Rattle.staging.proofs.Cursors.{left_behind, line_written, next_is, past_all, within}
+use Rattle.staging.proofs.Cursors.{left_behind, lines_written, past_all, placed_on, within}
 use Rattle.staging.proofs.writing.write_next.Goals as goal
 
 pub returns-clause-ok : goal.returns-clause-ok
 returns-clause-ok g c clean =
     let old = state g.S.Store c.args.tx.now.conn.now in
-    let new = state g.S.Store c.write_line.new.tx.conn.now in
+    let new = state g.S.Store c.write_lines.new.tx.conn.now in
     let ps = c.args.puts.now in
     let cursor = c.args.cursor.now in
     let put = c.in-Some-get.put in
@@ -15,9 +15,8 @@ returns-clause-ok g c clean =
     let more = within c.get-2.result cursor.done (length ps) put c.get-2.ensures.lookup.0 c.in-Some-get.is in
     let is = subst (λ o. IfSome o (λ x. x.now ≡ get_or ps cursor.done x.now)) c.in-Some-get.is
     c.get-2.ensures.lookup.1 in
-    let low = (next_is ps cursor put.now c.requires.placed more is).0 in
-    line_written c.args.batch ps c.args.later.now cursor put.now past more is low old new
-    (c.in_ok-write_line.ensures.ok clean)
+    lines_written c.args.batch ps c.args.later.now cursor put.now past more is old new
+    (c.in_ok-write_lines.ensures.ok clean)
 
 pub returns-clause-left : goal.returns-clause-left
 returns-clause-left g c =
@@ -28,6 +27,14 @@ returns-clause-left g c =
     let more = within c.get-2.result cursor.done (length ps) put c.get-2.ensures.lookup.0 c.in-Some-get.is in
     let is = subst (λ o. IfSome o (λ x. x.now ≡ get_or ps cursor.done x.now)) c.in-Some-get.is
     c.get-2.ensures.lookup.1 in
-    let low = (next_is ps cursor put.now c.requires.placed more is).0 in
-    left_behind c.args.batch ps c.args.later.now cursor put.now past more is low c.go_on.new.self
-    c.write_line.new.lines.items (c.in_ok-write_line.ensures.made.0) c.in_ok-go_on.ensures
+    left_behind c.args.batch ps c.args.later.now cursor put.now past more is
+
+pub returns-clause-placed : goal.returns-clause-placed
+returns-clause-placed g c =
+    let ps = c.args.puts.now in
+    let cursor = c.args.cursor.now in
+    let put = c.in-Some-get.put in
+    let more = within c.get-2.result cursor.done (length ps) put c.get-2.ensures.lookup.0 c.in-Some-get.is in
+    let is = subst (λ o. IfSome o (λ x. x.now ≡ get_or ps cursor.done x.now)) c.in-Some-get.is
+    c.get-2.ensures.lookup.1 in
+    placed_on ps cursor put.now more is c.requires.placed c.in_ok-write_lines.ensures.shallow

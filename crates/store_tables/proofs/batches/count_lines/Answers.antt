@@ -1,5 +1,4 @@
-use Rattle.std.proofs.Common.{length, ap, ◌∙◌}
-use Rattle.std.proofs.lemmas.List.{length-map}
+use Rattle.std.proofs.Common.{◌∙◌}
 use Rattle.sqlite.specs.Held.{state}
 use Rattle.store_tables.proofs.BatchQueries.{reads_own_lines}
 use Rattle.store_tables.proofs.BatchTexts.{own_lines_plain}
@@ -16,8 +15,7 @@ returns-in-Ok-clause-looks g c =
     let shown = rw (c.params-to_sql.ensures) at did.shown in
     record {
       read = λ clean rows was. c.len.ensures ∙ c.in-Ok.rows.ok.0
-          ∙ ap length (reads_own_lines old new c.args.number _ rows was.schema was.good.holds (shown clean))
-          ∙ length-map _ _;
+          ∙ reads_own_lines old new c.args.number _ rows was.schema was.good.holds (shown clean);
       same = did.same;
       refused = λ clean. tt;
       crash = did.crash;

@@ -1,6 +1,6 @@
 use Rattle.sqlite.specs.Held.{state}
 use Rattle.store_tables.specs.Rows.{without_lines_from}
-use Rattle.store_tables.proofs.BatchStatements.{deletes_lines_from}
+use Rattle.store_tables.proofs.LineStatements.{deletes_lines_from}
 use Rattle.store_tables.proofs.Calls.{followed}
 use Rattle.store_tables.proofs.Typed.{typed_less_lines_from}
 use Rattle.store_tables.proofs.batches.delete_lines_from.Goals as goal

@@ -1,7 +1,7 @@
 use Rattle.sqlite.specs.Held.{state}
 use Rattle.store_tables.specs.Rows.{without_lines}
 use Rattle.store_tables.proofs.Calls.{followed}
-use Rattle.store_tables.proofs.Statements.{deletes_lines}
+use Rattle.store_tables.proofs.LineStatements.{deletes_lines}
 use Rattle.store_tables.proofs.Typed.{typed_less_lines}
 use Rattle.store_tables.proofs.rows.delete_lines.Goals as goal
 

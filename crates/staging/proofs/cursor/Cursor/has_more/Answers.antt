@@ -16,7 +16,7 @@ returns-then-self-puts-2 c batch =
       | then-self-puts w ↦ some_first rest c.if-self-puts.value on
           (rows_more batch ps later cursor (omega (arith, w.if-self-puts.true)))
       | else-self-puts w ↦ some_first rest c.if-self-puts.value on
-          (lines_more batch ps later cursor c.requires.placed (below_is cursor.done _ (sym w.value-is ∙ on)))
+          (lines_more batch ps later cursor (below_is cursor.done _ (sym w.value-is ∙ on)))
     ]
 
 pub returns-else-self-puts-2 : goal.returns-else-self-puts-2
