@@ -14,9 +14,7 @@ import re
 import shlex
 import tempfile
 
-from archives import Folder, lines
 from harness import REFUSALS, ROOT, Case, Outcome, Tools, demand, expect, run, written
-from packed import PACKS, each_line
 
 DOCUMENTS = (
     "README.md", "docs/WALK.md", "docs/SHEETS.md", "samples/README.md", "docs/FORMATS.md", "docs/REFUSALS.md",
@@ -65,27 +63,6 @@ def prints_in_turn(tools, walk):
             prints(tools, command.replace(ARCHIVE, shlex.quote(file)), text)
 
 
-QUERIES = re.compile(r"^```sql\n(.*?)^```$", re.DOTALL | re.MULTILINE)
-
-
-def queries_of_keepers(tools):
-    """The queries that KEEPING shows for `sqlite3`: the lines of each record, one by one, as tests/packed.py reads
-    them, and who names a record."""
-    single, naming = QUERIES.findall(text_of("docs/KEEPING.md"))
-    with Folder(tools) as at:
-        rows = ('p,place,"Mill ""Field""",', "s,source,Register,,,,", 'a,person,"Ann\n/Lee/",F',
-                "e,event,3,BIRT,,1700,1", "r,repo,Office", "c,citation,4,2,,", "b,person,it's Tom,",
-                "m,source,Wills,,,5,1", "f,family,3,7")
-        demand(at.made().apply(lines(rows)).out.count(b",ok,") == len(rows), "a row was refused")
-        wanted = []
-        for number, place, depth, tag, text, named in each_line(at.rows_of(PACKS)):
-            target = "" if named is None else f">{named}"
-            wanted.append((number, place, f"{depth} {tag}{target}" + ("" if text is None else f" {text}")))
-        got = at.rows_of(single)
-        demand(got == wanted, f"{[pair for pair in zip(got, wanted) if pair[0] != pair[1]][:3]}")
-        demand(at.rows_of(naming) == [(8,)], f"{at.rows_of(naming)}")
-
-
 def refusals_are_listed():
     """The table of what can be printed has the numbers and names that the tests know."""
     listed = {int(number): name for number, name in ROW.findall(text_of("docs/REFUSALS.md"))}
@@ -94,7 +71,6 @@ def refusals_are_listed():
 
 def cases(tools: Tools):
     yield Case("documents: the refusals are listed", refusals_are_listed)
-    yield Case("documents: queries of keepers", lambda: queries_of_keepers(tools))
     for document in DOCUMENTS:
         for walk in walks_of(document):
             name = f"documents: {document}: {walk[0][0]} and what follows"

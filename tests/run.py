@@ -35,6 +35,7 @@ import leaks  # noqa: E402
 import memory  # noqa: E402
 import merges  # noqa: E402
 import properties  # noqa: E402
+import queries  # noqa: E402
 import refusals  # noqa: E402
 import releases  # noqa: E402
 import rooms  # noqa: E402
@@ -71,6 +72,7 @@ PARTS = (
     exchanges,
     memory,
     properties,
+    queries,
     streams,
     untouched,
     visits,

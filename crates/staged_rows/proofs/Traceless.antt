@@ -23,7 +23,22 @@ use Rattle.std.specs.List.{list_any}
 use Rattle.std.proofs.lemmas.Bool.Decides.{nat_tests}
 use Rattle.record_shapes.specs.Lists.{EachOf}
 use Rattle.archive_state.specs.declared.changes.Numbered.{Numbered}
-use Rattle.store_tables.specs.Rows.{Rows, BatchRow, RecordRow, LineRow, PackRow, SoughtRow, SpanRow, put_by, with_batch, without_batch_row, without_lines, without_record_row, without_sought, without_span}
+use Rattle.store_tables.specs.Rows.{
+  Rows,
+  BatchRow,
+  RecordRow,
+  LineRow,
+  PackRow,
+  SoughtRow,
+  SpanRow,
+  put_by,
+  with_batch,
+  without_batch_row,
+  without_lines,
+  without_record_row,
+  without_sought,
+  without_span,
+}
 use Rattle.store_rows.specs.Links.{without_all_links}
 use Rattle.store_rows.specs.Sought.{without_all_sought}
 use Rattle.store_rows.specs.Spans.{AreDrawn, Drawn, without_all_spans}

@@ -1,5 +1,23 @@
 -- The links of an import, gathered as pairs.
-use Rattle.std.proofs.Common.{◌≡◌, ◌<◌, ℕ, List, [], ◌∷◌, ◌++◌, Ordering, Less, Equal, Greater, arith, refl, sym, ap, ap₂, ◌∙◌}
+use Rattle.std.proofs.Common.{
+  ◌≡◌,
+  ◌<◌,
+  ℕ,
+  List,
+  [],
+  ◌∷◌,
+  ◌++◌,
+  Ordering,
+  Less,
+  Equal,
+  Greater,
+  arith,
+  refl,
+  sym,
+  ap,
+  ap₂,
+  ◌∙◌,
+}
 use Rattle.std.specs.BTreeSet.{insert_key}
 use Rattle.std.specs.Ordering.{match_ordering, nat_cmp, ordering_then}
 use Rattle.std.proofs.lemmas.Bool.Decides.{nat_tests}

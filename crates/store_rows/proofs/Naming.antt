@@ -1,5 +1,23 @@
 -- The lines that name a number are those of its referrers.
-use Rattle.std.proofs.Common.{◌≡◌, ℕ, Bool, true, false, List, [], ◌∷◌, map, filter, cond, refl, sym, ap, subst, ◌∙◌, arith}
+use Rattle.std.proofs.Common.{
+  ◌≡◌,
+  ℕ,
+  Bool,
+  true,
+  false,
+  List,
+  [],
+  ◌∷◌,
+  map,
+  filter,
+  cond,
+  refl,
+  sym,
+  ap,
+  subst,
+  ◌∙◌,
+  arith,
+}
 use Rattle.std.specs.Prelude.{◌==◌, ◌&&◌, ◌||◌, Some, None, T}
 use Rattle.std.specs.List.{list_any}
 use Rattle.std.specs.FinMap.{entries, find, is_sorted}
