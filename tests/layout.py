@@ -36,6 +36,7 @@ LONGER = {
     "crates/store_tables/proofs/LaterTexts.antt": STATEMENT,
     "crates/store_tables/proofs/Texts.antt": STATEMENT,
     "crates/store_tables/src/creating.rt": STATEMENT,
+    "crates/tasks/src/progress.rt": LEMMAS,
     "docs/FORMATS.md": TABLE,
     "docs/KEEPING.md": TABLE,
     "docs/REFUSALS.md": TABLE,

@@ -30,7 +30,7 @@ PerformsOn image calls s = HasCleanDisk s → WhereHeld image (λ society c.
     × LeavesArchive s society (MayBeFound c calls))
 
 module _ {D S R W F : Type 0} {g : disk.Ghosts D} (reader : read.Ghosts R) (reads : device.Ghosts R)
-    (writer : write.Ghosts W) (writes : device.Ghosts W) (faulter : write.Ghosts F) where
+    (writer : write.Ghosts W) (writes : device.Ghosts W) (faulter : write.Ghosts F) (fails : device.Ghosts F) where
   -- no archive was taken up: nothing was read, and nothing written but the line of the refusal
   pub record EndsUnopened (image : Image) (x y : Streams R W F) (status : ℕ) (shown : Option Content)
       (left : Left S D g) : Type 0 where
@@ -47,7 +47,7 @@ module _ {D S R W F : Type 0} {g : disk.Ghosts D} (reader : read.Ghosts R) (read
     pub taken : Archive (FileStore D g) over_files
     pub new : Archive (FileStore D g) over_files
     pub held : IsTakenUp image taken
-    pub ends : Ends over_files reader reads writer writes faulter task (at taken x) (at new y) status shown
+    pub ends : Ends over_files reader reads writer writes faulter fails task (at taken x) (at new y) status shown
     pub back : left ≡ Open new.conn
 
   abbrev pub EndsOnFile : Image → Task → Streams R W F → Streams R W F → ℕ → Option Content → Left S D g → Type 0

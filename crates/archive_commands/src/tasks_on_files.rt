@@ -27,7 +27,7 @@ pub fn perform_on_file<S: Openable, R: Read + Device, W: Write + Device, F: Writ
     output: &mut W,
     faults: &mut F,
 ) -> (u8, Option<Library>, LeftFile<S>)
-    ensures { EndsOnFile R.Read R.Device W.Write W.Device F.Write (image_at S.Start) task
+    ensures { EndsOnFile R.Read R.Device W.Write W.Device F.Write F.Device (image_at S.Start) task
         (record { input = input.old; output = output.old; faults = faults.old })
         (record { input = input.new; output = output.new; faults = faults.new }) result.0 result.1 result.2 }
 {

@@ -1,6 +1,6 @@
 -- A file that was imported, as the call that performed its request says.
 use Rattle.std.proofs.Common.{◌≡◌, ◌⊎◌, ℕ, List, Result, Ok, Err, inl, inr}
-use Rattle.std.specs.Prelude.{Option, IfErr, IfOk}
+use Rattle.std.specs.Prelude.{Option, IfErr, IfOk, OnOk}
 use Rattle.sqlite_trees.specs.declared.store.Store.{Ghosts}
 use Rattle.record_text.specs.declared.refusal.Refusal.{Refusal}
 use Rattle.receipts.specs.declared.answer.Answer.{Answer}
@@ -13,6 +13,13 @@ use Rattle.tables.specs.Applying.{Steps}
 use Rattle.interchange.specs.Results.{IsUnreported}
 use Rattle.file_imports.specs.Importing.{Imports, ImportsAll, ImportsSilently, IsFileOf}
 use Rattle.archive_core.specs.Machine.{import_of}
+
+-- what is told of the import of a forest, of the file that it was read from
+pub file_told : {A E X : Type 0} (input : Option (List ℕ)) (Q : List Item → Type 0) (forest : List Item)
+    → IsFileOf input forest → (r : Result A E) → (X → OnOk r (Q forest))
+    → OnOk r ((found : List Item) × IsFileOf input found × (X → Q found))
+file_told input Q forest read (Ok done) told = (forest, read, told)
+file_told input Q forest read (Err e) told = tt
 
 module _ {S : Type 0} (g : Ghosts S) (token : List ℕ) (input : Option (List ℕ)) (old new : Archive S g)
     (forest : List Item) (read : IsFileOf input forest) where

@@ -1,1 +1,2 @@
 mod Imported
+pub mod Told

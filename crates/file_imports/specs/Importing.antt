@@ -13,7 +13,12 @@ use Rattle.gedcom_tree.specs.Text.{IsForest}
 use Rattle.import_forest.specs.Report.{report}
 use Rattle.archive_core.specs.Machine.{import_of}
 use Rattle.interchange.specs.Results.{IsUnreported}
+use Rattle.sqlite.specs.Held.{state}
+use Rattle.sqlite.specs.State.{HasCleanDisk}
+use Rattle.staging.specs.Counts.{RowCount}
+use Rattle.store.specs.Calls.{OnArchive}
 use Rattle.store.specs.Histories.{Outcome}
+use Rattle.store.specs.Telling.{TellsDone}
 use Rattle.store.specs.declared.archive.Archive.{Archive}
 use Rattle.tables.specs.Applying.{Steps}
 use Rattle.file_imports.specs.Faults.{refusal_of}
@@ -34,6 +39,13 @@ abbrev pub ImportsAll : {S : Type 0} → (g : Ghosts S) → List ℕ → Option 
     → List ReportLine → Archive S g → Type 0
 ImportsAll g token input old answer said new =
     (all : Imports g token input old (Ok answer) new) × (said ≡ report all.forest)
+
+-- it was accepted, and of it was told what is told of a request that is done
+abbrev pub TellsImported : {S P : Type 0} → (g : Ghosts S) → (P → RowCount → P → Type 0) → List ℕ → Option (List ℕ)
+    → Archive S g → Archive S g → P → P → Type 0
+TellsImported g Tells token input old new before after = (forest : List Item) × IsFileOf input forest
+    × (HasCleanDisk (state g new.conn) → OnArchive (state g old.conn)
+    (λ society c rows. TellsDone Tells c (import_of token forest) before after))
 
 -- it was accepted, and there is no report
 abbrev pub ImportsSilently : {S : Type 0} → (g : Ghosts S) → List ℕ → Option (List ℕ) → Archive S g → Refusal

@@ -1,11 +1,15 @@
 //! A file read from an input, and imported into an archive by one request.
 
-ghost use Rattle.std.specs.Prelude.{◌≡◌, ◌⊎◌, Err, IfErr, IfOk, Ok};
+ghost use Rattle.std.specs.Prelude.{◌≡◌, ◌⊎◌, Err, IfErr, IfOk, Ok, OnOk};
+ghost use Rattle.sqlite.specs.Held.{state};
+ghost use Rattle.sqlite.specs.State.{HasCleanDisk};
 ghost use Rattle.devices.specs.Devices.{Rose};
 ghost use Rattle.receipts.specs.declared.answer.Answer.{Answer};
 ghost use Rattle.import_forest.specs.Report.{report as report_said};
 ghost use Rattle.tables.specs.Applying.{Steps};
-ghost use Rattle.file_imports.specs.Importing.{ImportsAll, IsUntold};
+ghost use Rattle.store.specs.Calls.{OnArchive};
+ghost use Rattle.store.specs.Telling.{TellsDone, TellsImport};
+ghost use Rattle.file_imports.specs.Importing.{ImportsAll, IsUntold, TellsImported};
 ghost use Rattle.interchange.specs.Results.{IsUnreported};
 ghost use Rattle.archive_core.specs.Machine.{import_of};
 
@@ -38,6 +42,9 @@ pub fn import<S: Alter, R: Read + Device, P: Progress>(
         archive.new) }
     ensures refused { IfErr result (λ e. IsUntold S.Store token (R.remaining input.old) archive.old e archive.new
         (Rose (R.failed input.old) (R.failed input.new))) }
+    ensures told { TellsImport P.Tells progress.old progress.new }
+    ensures told_done { OnOk result (TellsImported S.Store P.Tells token (R.remaining input.old) archive.old archive.new
+        progress.old progress.new) }
 {
     match read_forest(alloc, input) {
         Ok(forest) => import_forest(alloc, archive, token, forest, progress),
@@ -58,6 +65,10 @@ fn import_forest<S: Alter, P: Progress>(
     ensures refused { IfErr result (λ e. Steps S.Store (Ok (import_of token forest, Err e)) archive.old archive.new
         ⊎ ((answer : Answer) × Steps S.Store (Ok (import_of token forest, Ok answer)) archive.old archive.new
         × IsUnreported forest e)) }
+    ensures told { TellsImport P.Tells progress.old progress.new }
+    ensures told_done { HasCleanDisk (state S.Store archive.new.conn) → OnOk result (OnArchive
+        (state S.Store archive.old.conn) (λ society c rows. TellsDone P.Tells c (import_of token forest) progress.old
+        progress.new)) }
 {
     let report = report_of(alloc, &forest);
     match import_once(alloc, archive, token, forest, progress) {
@@ -80,7 +91,11 @@ fn import_once<S: Alter, P: Progress>(
     forest: Forest,
     progress: &mut P,
 ) -> Result<Answer, Refusal>
-    ensures { Steps S.Store (Ok (import_of token forest, result)) archive.old archive.new }
+    ensures steps { Steps S.Store (Ok (import_of token forest, result)) archive.old archive.new }
+    ensures told { TellsImport P.Tells progress.old progress.new }
+    ensures told_done { HasCleanDisk (state S.Store archive.new.conn) → OnOk result (OnArchive
+        (state S.Store archive.old.conn) (λ society c rows. TellsDone P.Tells c (import_of token forest) progress.old
+        progress.new)) }
 {
     let outcome = archive.import(alloc, &token, forest, progress);
     drop(token);

@@ -54,7 +54,8 @@ unwritten {R} {W} reader writer x y bytes seen unseen s same =
     none_seen seen unseen (sym s.writes ∙ ap (λ (w : W). writer.contents w) same ∙ s.begins)
 
 module _ {R W F D S : Type 0} {g : disk.Ghosts D} (reader : read.Ghosts R) (reads : device.Ghosts R)
-    (writer : write.Ghosts W) (writes : device.Ghosts W) (faulter : write.Ghosts F) (image after : Image) (status : ℕ)
+    (writer : write.Ghosts W) (writes : device.Ghosts W) (faulter : write.Ghosts F) (fails : device.Ghosts F)
+    (image after : Image) (status : ℕ)
     (x y : Streams R W F) (left : Left S D g) (room : Option Visits) (bytes seen unseen : List ℕ) (ended : Option ℕ)
     (as_seen : IsSeenAs status unseen ended) where
   abbrev run : Option Task → Run
@@ -62,7 +63,7 @@ module _ {R W F D S : Type 0} {g : disk.Ghosts D} (reader : read.Ghosts R) (read
 
   module _
       (performed : (t : Task) (shown : Option Content)
-      → EndsOnFile reader reads writer writes faulter image t x y status shown left
+      → EndsOnFile reader reads writer writes faulter fails image t x y status shown left
       → Carries image (run (Some t)) after)
       (untried : (t : Task) → IsUntouched left → y.output ≡ x.output → status ≡ 1
       → Carries image (run (Some t)) after)
@@ -70,18 +71,18 @@ module _ {R W F D S : Type 0} {g : disk.Ghosts D} (reader : read.Ghosts R) (read
       (begins : (society : List ℕ) → IsMadeIn image society left → ∥ Stands society nothing after ∥₁)
     where
       -- ---- tasks
-      performs : (t : Task) → DoesTask reader reads writer writes faulter image status x y left room t
+      performs : (t : Task) → DoesTask reader reads writer writes faulter fails image status x y left room t
           → Carries image (run (Some t)) after
       performs t did = performed t did.0 did.1
 
       no_token : (word : List ℕ)
-          → Finished reader reads writer writes faulter image status x y left room
-          (IsNoToken reader reads writer writes faulter image status x y left room word) → status ≡ 1
+          → Finished reader reads writer writes faulter fails image status x y left room
+          (IsNoToken reader reads writer writes faulter fails image status x y left room word) → status ≡ 1
       no_token word done =
           (subst (λ (o : Outcome). Finishes faulter.contents o status x.faults y.faults) done.1.1 done.2).0
 
       under : (word : List ℕ) (t : Task)
-          → DoesUnder reader reads writer writes faulter image status x y left room word t
+          → DoesUnder reader reads writer writes faulter fails image status x y left room word t
           → Carries image (run (Some t)) after
       under word t (inl bad) = untried t bad.3.0 bad.2 (no_token word bad.0)
       under word t (inr did) = performs t did.1
@@ -100,7 +101,7 @@ module _ {R W F D S : Type 0} {g : disk.Ghosts D} (reader : read.Ghosts R) (read
           absurd (omega (arith, finishes.0, (subst (IsSeenAs status unseen) done as_seen).0))
 
       -- ---- each command
-      pub is_run : (a : Asked) → Does reader reads writer writes faulter image status x y left room a
+      pub is_run : (a : Asked) → Does reader reads writer writes faulter fails image status x y left room a
           → IsRun image bytes seen ended after a
       is_run asked.Norm did = ((None, refl, idles [] (inl did.1.0)), tt)
       is_run asked.Check did = ((None, refl, idles [] (inl did.1.0)), tt)

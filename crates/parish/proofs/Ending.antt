@@ -31,26 +31,29 @@ on_ok (Ok a) p = p
 on_ok (Err e) p = tt
 
 module _ {D S R W F : Type 0} {g : disk.Ghosts D} (reader : read.Ghosts R) (reads : device.Ghosts R)
-    (writer : write.Ghosts W) (writes : device.Ghosts W) (faulter : write.Ghosts F) (image : Image) (status : ℕ)
+    (writer : write.Ghosts W) (writes : device.Ghosts W) (faulter : write.Ghosts F) (fails : device.Ghosts F)
+    (image : Image) (status : ℕ)
     (x y : Streams R W F) (left : Left S D g) (room : Option Visits) where
   -- ---- the status is 0 or 1
   finished_at_most_1 : (P : Outcome → Type 0)
-      → Finished reader reads writer writes faulter image status x y left room P → status ≤ 1
+      → Finished reader reads writer writes faulter fails image status x y left room P → status ≤ 1
   finished_at_most_1 P did = at_most_1 faulter.contents did.0 status x.faults y.faults did.2
 
   file_at_most_1 : (t : Task) (shown : Option Content)
-      → EndsOnFile reader reads writer writes faulter image t x y status shown left → status ≤ 1
+      → EndsOnFile reader reads writer writes faulter fails image t x y status shown left → status ≤ 1
   file_at_most_1 t shown (inl un) =
       at_most_1 faulter.contents (Err (placeless_text un.kind)) status x.faults y.faults un.finishes
   file_at_most_1 t shown (inr on) =
-      ends_at_most_1 over_files reader reads writer writes faulter t (at on.taken x) (at on.new y) status shown on.ends
+      ends_at_most_1 over_files reader reads writer writes faulter fails t (at on.taken x)
+      (at on.new y) status shown on.ends
 
   under_at_most_1 : (word : List ℕ) (t : Task)
-      → DoesUnder reader reads writer writes faulter image status x y left room word t → status ≤ 1
+      → DoesUnder reader reads writer writes faulter fails image status x y left room word t → status ≤ 1
   under_at_most_1 word t (inl none) = finished_at_most_1 _ none.0
   under_at_most_1 word t (inr did) = file_at_most_1 t did.1.0 did.1.1
 
-  pub does_at_most_1 : (a : Asked) → Does reader reads writer writes faulter image status x y left room a → status ≤ 1
+  pub does_at_most_1 : (a : Asked) → Does reader reads writer writes faulter fails image status x y left room a
+      → status ≤ 1
   does_at_most_1 asked.Norm did = finished_at_most_1 _ did.0
   does_at_most_1 asked.Check did = finished_at_most_1 _ did.0
   does_at_most_1 (asked.Init file society) did = finished_at_most_1 _ did.0
@@ -76,26 +79,29 @@ module _ {D S R W F : Type 0} {g : disk.Ghosts D} (reader : read.Ghosts R) (read
 
   -- ---- what is done says nothing on the faults, but for rows and the progress of an import
   finished_quietly : (P : Outcome → Type 0)
-      → Finished reader reads writer writes faulter image status x y left room P → status ≡ 0 → y.faults ≡ x.faults
+      → Finished reader reads writer writes faulter fails image status x y left room P → status ≡ 0
+      → y.faults ≡ x.faults
   finished_quietly P did zero =
       done_quiet faulter.contents did.0 status x.faults x.faults y.faults did.2 (on_ok did.0 refl) zero
 
   file_quietly : (t : Task) (shown : Option Content)
-      → EndsOnFile reader reads writer writes faulter image t x y status shown left → says t ≡ false → status ≡ 0
+      → EndsOnFile reader reads writer writes faulter fails image t x y status shown left → says t ≡ false → status ≡ 0
       → y.faults ≡ x.faults
   file_quietly t shown (inl un) is zero =
       done_quiet faulter.contents (Err (placeless_text un.kind)) status x.faults x.faults y.faults un.finishes tt zero
   file_quietly t shown (inr on) is zero =
-      ends_quietly over_files reader reads writer writes faulter t (at on.taken x) (at on.new y) status shown on.ends is
+      ends_quietly over_files reader reads writer writes faulter fails t (at on.taken x)
+      (at on.new y) status shown on.ends is
       zero
 
   under_quietly : (word : List ℕ) (t : Task)
-      → DoesUnder reader reads writer writes faulter image status x y left room word t → says t ≡ false → status ≡ 0
+      → DoesUnder reader reads writer writes faulter fails image status x y left room word t → says t ≡ false
+      → status ≡ 0
       → y.faults ≡ x.faults
   under_quietly word t (inl none) is zero = finished_quietly _ none.0 zero
   under_quietly word t (inr did) is zero = file_quietly t did.1.0 did.1.1 is zero
 
-  pub does_quietly : (a : Asked) → Does reader reads writer writes faulter image status x y left room a
+  pub does_quietly : (a : Asked) → Does reader reads writer writes faulter fails image status x y left room a
       → tells a ≡ false → status ≡ 0 → y.faults ≡ x.faults
   does_quietly asked.Norm did is zero = finished_quietly _ did.0 zero
   does_quietly asked.Check did is zero = finished_quietly _ did.0 zero

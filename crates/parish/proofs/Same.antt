@@ -16,30 +16,32 @@ use Rattle.tasks.specs.declared.task.Task.{Task}
 use Rattle.tasks.specs.declared.task.Task.TheVariants as task
 
 module _ {D S R W F : Type 0} {g : disk.Ghosts D} (reader : read.Ghosts R) (reads : device.Ghosts R)
-    (writer : write.Ghosts W) (writes : device.Ghosts W) (faulter : write.Ghosts F) (image : Image) (status : ℕ)
+    (writer : write.Ghosts W) (writes : device.Ghosts W) (faulter : write.Ghosts F) (fails : device.Ghosts F)
+    (image : Image) (status : ℕ)
     (x y : Streams R W F) (left : Left S D g) where
   pub under_token : (room : Option Visits) (t : List ℕ → Task) (word token : List ℕ) → word ≡ token
-      → DoesTask reader reads writer writes faulter image status x y left room (t word)
-      → DoesTask reader reads writer writes faulter image status x y left room (t token)
+      → DoesTask reader reads writer writes faulter fails image status x y left room (t word)
+      → DoesTask reader reads writer writes faulter fails image status x y left room (t token)
   under_token room t word token e did =
-      subst (λ (v : List ℕ). DoesTask reader reads writer writes faulter image status x y left room (t v)) e did
+      subst (λ (v : List ℕ). DoesTask reader reads writer writes faulter fails image status x y left room (t v)) e did
 
   pub on_day : (room : Option Visits) (t : ℤ → Task) (today day : ℤ) → today ≡ day
-      → DoesTask reader reads writer writes faulter image status x y left room (t today)
-      → DoesTask reader reads writer writes faulter image status x y left room (t day)
+      → DoesTask reader reads writer writes faulter fails image status x y left room (t today)
+      → DoesTask reader reads writer writes faulter fails image status x y left room (t day)
   on_day room t today day e did =
-      subst (λ (d : ℤ). DoesTask reader reads writer writes faulter image status x y left room (t d)) e did
+      subst (λ (d : ℤ). DoesTask reader reads writer writes faulter fails image status x y left room (t d)) e did
 
   pub between : (room : Option Visits) (words : Bool) (f first l last : ℤ) → f ≡ first → l ≡ last
-      → DoesTask reader reads writer writes faulter image status x y left room (task.Days f l words)
-      → DoesTask reader reads writer writes faulter image status x y left room (task.Days first last words)
+      → DoesTask reader reads writer writes faulter fails image status x y left room (task.Days f l words)
+      → DoesTask reader reads writer writes faulter fails image status x y left room (task.Days first last words)
   between room words f first l last e h did =
       on_day room (λ (d : ℤ). task.Days first d words) l last h
       (on_day room (λ (d : ℤ). task.Days d l words) f first e did)
 
   pub library_on : (shown : Option Content) (today day : ℤ) → today ≡ day
-      → EndsOnFile reader reads writer writes faulter image (task.Library today) x y status shown left
-      → EndsOnFile reader reads writer writes faulter image (task.Library day) x y status shown left
+      → EndsOnFile reader reads writer writes faulter fails image (task.Library today) x y status shown left
+      → EndsOnFile reader reads writer writes faulter fails image (task.Library day) x y status shown left
   library_on shown today day e did =
-      subst (λ (d : ℤ). EndsOnFile reader reads writer writes faulter image (task.Library d) x y status shown left) e
+      subst (λ (d : ℤ). EndsOnFile reader reads writer writes faulter fails image
+      (task.Library d) x y status shown left) e
       did

@@ -15,12 +15,14 @@ use Rattle.parish.specs.declared.visits.Visits.{Visits}
 use Rattle.tasks.specs.Moments.{Streams}
 
 module _ {R W F D S : Type 0} {g : disk.Ghosts D} (reader : read.Ghosts R) (reads : device.Ghosts R)
-    (writer : write.Ghosts W) (writes : device.Ghosts W) (faulter : write.Ghosts F) (image : Image) (status : ℕ)
+    (writer : write.Ghosts W) (writes : device.Ghosts W) (faulter : write.Ghosts F) (fails : device.Ghosts F)
+    (image : Image) (status : ℕ)
     (x y : Streams R W F) (left : Left S D g) (room : Option Visits) (words : List (List ℕ))
     (none : ¬ (IsTaken words)) where
   pub untaken : (a : Asked) → IfSome (name_of a) (λ n. IsTaken words × (command_named words ≡ Some n))
-      → Does reader reads writer writes faulter image status x y left room a → (name_of a ≡ None → AsksForHelp words)
-      → RefusesWords reader reads writer writes faulter image status x y left room words
+      → Does reader reads writer writes faulter fails image status x y left room a → (name_of a ≡ None
+      → AsksForHelp words)
+      → RefusesWords reader reads writer writes faulter fails image status x y left room words
   untaken asked.Norm is did help = absurd (none is.0)
   untaken asked.Check is did help = absurd (none is.0)
   untaken (asked.Init file society) is did help = absurd (none is.0)

@@ -69,7 +69,8 @@ module _ {D S : Type 0} {g : disk.Ghosts D} (image : Image) (left : Left S D g) 
       × IfErr r (λ kind. Unmade image society kind left)
 
 module _ {D S R W F : Type 0} {g : disk.Ghosts D} (reader : read.Ghosts R) (reads : device.Ghosts R)
-    (writer : write.Ghosts W) (writes : device.Ghosts W) (faulter : write.Ghosts F) (image : Image) (status : ℕ)
+    (writer : write.Ghosts W) (writes : device.Ghosts W) (faulter : write.Ghosts F) (fails : device.Ghosts F)
+    (image : Image) (status : ℕ)
     (x y : Streams R W F) (left : Left S D g) (room : Option Visits) where
   -- ---- the streams, the file and the room
   abbrev pub HasReadFailed : Type 0
@@ -96,7 +97,7 @@ module _ {D S R W F : Type 0} {g : disk.Ghosts D} (reader : read.Ghosts R) (read
   -- a task was performed on the archive in a file, and there is no room
   abbrev pub DoesTask : Task → Type 0
   DoesTask t = (shown : Option Content)
-      × EndsOnFile reader reads writer writes faulter image t x y status shown left × (room ≡ None)
+      × EndsOnFile reader reads writer writes faulter fails image t x y status shown left × (room ≡ None)
 
   -- the word is no token, or no memory was found for it
   abbrev pub IsNoToken : List ℕ → Outcome → Type 0
@@ -128,7 +129,7 @@ module _ {D S R W F : Type 0} {g : disk.Ghosts D} (reader : read.Ghosts R) (read
   Does (Sheet file which number generations today) = (page : Page) × IsSheetOf which number generations page
       × DoesTask (task.Sheet page today)
   Does (Serve file port count today) = (shown : Option Content)
-      × EndsOnFile reader reads writer writes faulter image (task.Library today) x y status shown left
+      × EndsOnFile reader reads writer writes faulter fails image (task.Library today) x y status shown left
       × IsRoomOf port count shown room
   Does (Audit file) = DoesTask task.Audit
   Does (Days file first last words) = DoesTask (task.Days first last words)

@@ -51,7 +51,7 @@ pub(crate) fn do_task<S: Openable, R: Read + Device, W: Write + Device, F: Write
     output: &mut W,
     faults: &mut F,
 ) -> Ended<S>
-    ensures { DoesTask R.Read R.Device W.Write W.Device F.Write (image_at S.Start) result.0
+    ensures { DoesTask R.Read R.Device W.Write W.Device F.Write F.Device (image_at S.Start) result.0
         (record { input = input.old; output = output.old; faults = faults.old })
         (record { input = input.new; output = output.new; faults = faults.new }) result.1 result.2 task }
 {
@@ -70,7 +70,7 @@ pub(crate) fn enter<S: Openable, R: Read + Device, W: Write + Device, F: Write +
     output: &mut W,
     faults: &mut F,
 ) -> Ended<S>
-    ensures { DoesUnder R.Read R.Device W.Write W.Device F.Write (image_at S.Start) result.0
+    ensures { DoesUnder R.Read R.Device W.Write W.Device F.Write F.Device (image_at S.Start) result.0
         (record { input = input.old; output = output.old; faults = faults.old })
         (record { input = input.new; output = output.new; faults = faults.new }) result.1 result.2 token.now
         (task.Entries token.now source) }
@@ -104,7 +104,7 @@ pub(crate) fn take_in<S: Openable, R: Read + Device, W: Write + Device, F: Write
     output: &mut W,
     faults: &mut F,
 ) -> Ended<S>
-    ensures { DoesUnder R.Read R.Device W.Write W.Device F.Write (image_at S.Start) result.0
+    ensures { DoesUnder R.Read R.Device W.Write W.Device F.Write F.Device (image_at S.Start) result.0
         (record { input = input.old; output = output.old; faults = faults.old })
         (record { input = input.new; output = output.new; faults = faults.new }) result.1 result.2 token.now
         (task.Import token.now progress) }
@@ -154,7 +154,7 @@ pub(crate) fn open_room<S: Openable, R: Read + Device, W: Write + Device, F: Wri
     output: &mut W,
     faults: &mut F,
 ) -> Ended<S>
-    ensures { (shown : Option Content) × EndsOnFile R.Read R.Device W.Write W.Device F.Write (image_at S.Start)
+    ensures { (shown : Option Content) × EndsOnFile R.Read R.Device W.Write W.Device F.Write F.Device (image_at S.Start)
         (task.Library today)
         (record { input = input.old; output = output.old; faults = faults.old })
         (record { input = input.new; output = output.new; faults = faults.new }) result.0 shown result.1

@@ -68,15 +68,15 @@ pub fn command<S: Openable, R: Read + Device, W: Write + Device, F: Write + Devi
     ensures words { result.0 ≡ 2 → (input.new ≡ input.old) × (output.new ≡ output.old) × IsUntouched result.1
         × (result.2 ≡ None) }
     ensures does { IsTaken (map string_bytes words.now)
-        → IsWanting R.Read R.Device W.Write W.Device F.Write (image_at S.Start) result.0
+        → IsWanting R.Read R.Device W.Write W.Device F.Write F.Device (image_at S.Start) result.0
         (record { input = input.old; output = output.old; faults = faults.old })
         (record { input = input.new; output = output.new; faults = faults.new }) result.1 result.2
-        ⊎ DoesWords R.Read R.Device W.Write W.Device F.Write (image_at S.Start) result.0
+        ⊎ DoesWords R.Read R.Device W.Write W.Device F.Write F.Device (image_at S.Start) result.0
         (record { input = input.old; output = output.old; faults = faults.old })
         (record { input = input.new; output = output.new; faults = faults.new }) result.1 result.2
         (map string_bytes words.now) }
     ensures others { ¬ (IsTaken (map string_bytes words.now))
-        → RefusesWords R.Read R.Device W.Write W.Device F.Write (image_at S.Start) result.0
+        → RefusesWords R.Read R.Device W.Write W.Device F.Write F.Device (image_at S.Start) result.0
         (record { input = input.old; output = output.old; faults = faults.old })
         (record { input = input.new; output = output.new; faults = faults.new }) result.1 result.2
         (map string_bytes words.now) }
@@ -109,7 +109,7 @@ fn work<S: Openable, R: Read + Device, W: Write + Device, F: Write + Device>(
     faults: &mut F,
 ) -> Ended<S>
     requires words { (found : _) × HasWords found asked }
-    ensures { Does R.Read R.Device W.Write W.Device F.Write (image_at S.Start) result.0
+    ensures { Does R.Read R.Device W.Write W.Device F.Write F.Device (image_at S.Start) result.0
         (record { input = input.old; output = output.old; faults = faults.old })
         (record { input = input.new; output = output.new; faults = faults.new }) result.1 result.2 asked.entry }
 {

@@ -29,7 +29,7 @@ pub fn what_is_asked_for_loses_nothing<
 >()
     ensures asked { (image after : Image) (asked : Asked) (status : ℕ) (x y : Streams R W F) (left : Left S D D.Disk)
         (room : Option Visits) (bytes seen unseen : List ℕ) (ended : Option ℕ)
-        → Does R.Read R.Device W.Write W.Device F.Write image status x y left room asked
+        → Does R.Read R.Device W.Write W.Device F.Write F.Device image status x y left room asked
         → IsSeen R.Read W.Write x y bytes seen unseen → IsSeenAs status unseen ended → FindsAfter image left after
         → IsRun image bytes seen ended after asked }
     ensures refused { (image after : Image) (words : List (List ℕ)) (status : ℕ) (x y : Streams R W F)

@@ -34,19 +34,20 @@ Finds conn after = HasCleanDisk (file_state conn)
     × ∥ ((t : Trees) × (file_state conn).may_leave t × HoldsDatabase after t) ∥₁
 
 module _ {R W F : Type 0} (reader : read.Ghosts R) (reads : device.Ghosts R) (writer : write.Ghosts W)
-    (writes : device.Ghosts W) (faulter : write.Ghosts F) (x y : Streams R W F) (input seen unseen : List ℕ)
+    (writes : device.Ghosts W) (faulter : write.Ghosts F) (fails : device.Ghosts F) (x y : Streams R W F)
+    (input seen unseen : List ℕ)
     (status : ℕ) (ended : Option ℕ) (s : IsSeen reader writer x y input seen unseen) (is : IsSeenAs status unseen ended)
     (image after : Image) (t : Task) where
   abbrev run : Run
   run = run_of t input seen ended
 
   abbrev Found : List ℕ → Content → Trees → Type 0
-  Found = FoundIn reader reads writer writes faulter x y input seen unseen status ended s is t
+  Found = FoundIn reader reads writer writes faulter fails x y input seen unseen status ended s is t
 
   -- nothing was done
   acts : (c : Content) → y.output ≡ x.output → status ≡ 1 → Keeps c run []
   acts c same one =
-      acts_none reader reads writer writes faulter x y input seen unseen status ended s is t c
+      acts_none reader reads writer writes faulter fails x y input seen unseen status ended s is t c
       (untouched reader writer x y input seen unseen status ended s is same)
       (never reader writer x y input seen unseen status ended s is one)
 
@@ -71,30 +72,34 @@ module _ {R W F : Type 0} (reader : read.Ghosts R) (reads : device.Ghosts R) (wr
 
   module _ {D S : Type 0} {g : disk.Ghosts D} where
     unopened : (shown : Option Content) (left : LeftOf S D g)
-        → EndsUnopened reader reads writer writes faulter image x y status shown left → FindsAfter image left after
+        → EndsUnopened reader reads writer writes faulter fails image x y status shown left
+        → FindsAfter image left after
         → Carries image run after
     unopened shown (Untouched start) u finds = carried_over u.unwritten u.finishes.0 (finds.0 tt)
     unopened shown (Unopened rest) u finds = carried_over u.unwritten u.finishes.0 (finds.0 u.unopened.1)
     unopened shown (Open conn) u finds = λ society c stands.
         carried conn (finds.0 tt stands.0 stands.1) (λ clean society c tables holds had left may.
-        keeps_none reader reads writer writes faulter x y input seen unseen status ended s is t society c left
+        keeps_none reader reads writer writes faulter fails x y input seen unseen status ended s is t society c left
         (acts c u.unwritten u.finishes.0)
         (still_held tables (file_state conn) (u.unopened.spared clean tables holds) society c had left may))
         society c stands
 
     opened : ArePerformed g → FileComesBack → (shown : Option Content) (left : LeftOf S D g)
-        → EndsOpened reader reads writer writes faulter image t x y status shown left → FindsAfter image left after
+        → EndsOpened reader reads writer writes faulter fails image t x y status shown left
+        → FindsAfter image left after
         → Carries image run after
     opened law back shown left o finds society c stands =
         let found = subst (λ (rest : LeftOf S D g). FindsAfter image rest after) o.back finds in
         carried o.new.conn (found.0 tt stands.0 stands.1)
         (λ clean society c tables holds had left may.
-        found_by reader reads writer writes faulter x y input seen unseen status ended s is image o.taken o.new o.held
+        found_by reader reads writer writes faulter fails x y input seen unseen status ended s is image o.taken o.new
+        o.held
         clean society c tables holds had left may o.ends.between law back t o.ends.outcome shown
         (o.ends.does o.held.kept) o.ends.finishes) society c stands
 
     pub carries : ArePerformed g → FileComesBack → (shown : Option Content) (left : LeftOf S D g)
-        → EndsOnFile reader reads writer writes faulter image t x y status shown left → FindsAfter image left after
+        → EndsOnFile reader reads writer writes faulter fails image t x y status shown left
+        → FindsAfter image left after
         → Carries image run after
     carries law back shown left (inl u) finds = unopened shown left u finds
     carries law back shown left (inr o) finds = opened law back shown left o finds

@@ -91,7 +91,7 @@ ArePerformed {D} g = (image : Image) (taken new : Archive (FileStore D g) over_f
 
 -- ---- of a task whose run was seen so
 module _ {R W F : Type 0} (reader : read.Ghosts R) (reads : device.Ghosts R) (writer : write.Ghosts W)
-    (writes : device.Ghosts W) (faulter : write.Ghosts F) (x y : Streams R W F)
+    (writes : device.Ghosts W) (faulter : write.Ghosts F) (fails : device.Ghosts F) (x y : Streams R W F)
     (input seen unseen : List ℕ) (status : ℕ) (ended : Option ℕ) (s : IsSeen reader writer x y input seen unseen)
     (is : IsSeenAs status unseen ended) where
   abbrev pub run : Task → Run
@@ -335,7 +335,8 @@ module _ {R W F : Type 0} (reader : read.Ghosts R) (reads : device.Ghosts R) (wr
       abbrev After : Moment (over_files {D = D} {g = g}) R W F
       After = record { archive = new; input = y.input; output = y.output; faults = between }
 
-      apply_found : ArePerformed g → (r : Plain) → Applies over_files reader reads writer writes faulter Before After r
+      apply_found : ArePerformed g → (r : Plain) → Applies over_files reader reads writer writes faulter fails Before
+          After r
           → Finishes faulter.contents (as_text r) status between y.faults → FoundIn task.Apply society c left
       apply_found law (Ok done) did finishes =
           rows_served law (row_bytes (reader.remaining x.input)) (ap row_bytes s.reads) did.applied.0
@@ -344,7 +345,7 @@ module _ {R W F : Type 0} (reader : read.Ghosts R) (reads : device.Ghosts R) (wr
           (undone finishes.0)
 
       enter_found : ArePerformed g → (token : List ℕ) (source : ℕ) (o : Outcome)
-          → EntersBatch over_files reader reads writer writes faulter Before After token source o
+          → EntersBatch over_files reader reads writer writes faulter fails Before After token source o
           → Finishes faulter.contents o status between y.faults → FoundIn (task.Entries token source) society c left
       enter_found law token source (Ok done) did finishes =
           let all = did.entered in
@@ -361,7 +362,7 @@ module _ {R W F : Type 0} (reader : read.Ghosts R) (reads : device.Ghosts R) (wr
       ]
 
       import_found : ArePerformed g → (token : List ℕ) (progress : Bool) (o : Outcome)
-          → ImportsFile over_files reader reads writer writes faulter Before After token o
+          → ImportsFile over_files reader reads writer writes faulter fails Before After token o
           → Finishes faulter.contents o status between y.faults → FoundIn (task.Import token progress) society c left
       import_found law token progress (Ok done) did finishes =
           let all = did.imported in
@@ -389,7 +390,7 @@ module _ {R W F : Type 0} (reader : read.Ghosts R) (reads : device.Ghosts R) (wr
       ]
 
       export_found : FileComesBack → (r : Plain)
-          → Exports over_files reader reads writer writes faulter Before After r
+          → Exports over_files reader reads writer writes faulter fails Before After r
           → Finishes faulter.contents (as_text r) status between y.faults → FoundIn task.Export society c left
       export_found back (Ok done) did finishes =
           let was = only_read (λ name k. IsWhole Got Has (export_text name k)) did.written in
@@ -399,13 +400,14 @@ module _ {R W F : Type 0} (reader : read.Ghosts R) (reads : device.Ghosts R) (wr
           keeps_none task.Export society c left (refl, λ done. absurd (undone finishes.0 done)) (inl was.1)
 
       -- ---- tasks that only show: the archive is left as it is
-      published : (today : ℤ) (r : Plain) → Publishes over_files reader reads writer writes faulter Before After today r
+      published : (today : ℤ) (r : Plain) → Publishes over_files reader reads writer writes faulter fails Before After
+          today r
           → IsArchive society c left
       published today (Ok done) did = (only_read _ did.written).1
       published today (Err kind) did = (only_read _ did.begun).1
 
       sheet_printed : (sheet : Sheet) (today : ℤ) (r : Plain)
-          → PrintsSheet over_files reader reads writer writes faulter Before After sheet today r
+          → PrintsSheet over_files reader reads writer writes faulter fails Before After sheet today r
           → IsArchive society c left
       sheet_printed sheet today (Ok done) did = (only_read _ did.written).1
       sheet_printed sheet today (Err kind) did = (only_read _ did.refused).1
@@ -417,7 +419,7 @@ module _ {R W F : Type 0} (reader : read.Ghosts R) (reads : device.Ghosts R) (wr
       shelved today (Ok done) None did = absurd did
       shelved today (Err t) (Some shown) did = absurd did
 
-      audited : (o : Outcome) → Audits over_files reader reads writer writes faulter Before After o
+      audited : (o : Outcome) → Audits over_files reader reads writer writes faulter fails Before After o
           → IsArchive society c left
       audited o did =
           let audit : IsAudit (file_state taken.conn) did.0 (file_state new.conn) = did.2 clean in
@@ -433,7 +435,7 @@ module _ {R W F : Type 0} (reader : read.Ghosts R) (reads : device.Ghosts R) (wr
           subst (λ (k : Content). IsArchive society k left) found.1 found.2
 
       days_listed : (first last : ℤ) (words : Bool) (r : Plain)
-          → ListsDays over_files reader reads writer writes faulter Before After words first last r
+          → ListsDays over_files reader reads writer writes faulter fails Before After words first last r
           → IsArchive society c left
       days_listed first last words (Ok done) did = (only_read _ did.written.1).1
       days_listed first last words (Err kind) did = elim did.cut [
@@ -443,7 +445,7 @@ module _ {R W F : Type 0} (reader : read.Ghosts R) (reads : device.Ghosts R) (wr
 
       -- ---- each task
       pub found_by : ArePerformed g → FileComesBack → (t : Task) (o : Outcome) (shown : Option Content)
-          → Does over_files reader reads writer writes faulter Before After t o shown
+          → Does over_files reader reads writer writes faulter fails Before After t o shown
           → Finishes faulter.contents o status between y.faults → FoundIn t society c left
       found_by law back task.Apply o shown did finishes =
           apply_found law did.0.0 did.0.2

@@ -35,7 +35,7 @@ pub fn a_task_on_a_file_loses_nothing<
 >()
     ensures performed { (image after : Image) (task : Task) (x y : Streams R W F) (status : ℕ) (shown : Option Content)
         (left : Left S D D.Disk) (input seen unseen : List ℕ) (ended : Option ℕ)
-        → EndsOnFile R.Read R.Device W.Write W.Device F.Write image task x y status shown left
+        → EndsOnFile R.Read R.Device W.Write W.Device F.Write F.Device image task x y status shown left
         → IsSeen R.Read W.Write x y input seen unseen → IsSeenAs status unseen ended → FindsAfter image left after
         → Carries image (record { task = Some task; input = input; written = seen; status = ended }) after }
     ensures refused { (image after : Image) (task : Task) (x y : Streams R W F) (status : ℕ) (left : Left S D D.Disk)

@@ -9,6 +9,7 @@ mod Owned
 pub mod Seen
 mod Seeking
 mod Spans
+pub mod Stages
 mod Steps
 mod Thinned
 mod Written

@@ -1,3 +1,4 @@
 pub mod Clearing
+pub mod Counts
 pub mod Opened
 pub mod Opening

@@ -1,23 +1,28 @@
 //! How far an import is, for whoever wants to be told.
 
-ghost use Rattle.std.specs.Prelude.{◌≡◌, ◌+◌, ◌-◌, ◌^◌, ℕ, length, min};
+ghost use Rattle.std.specs.Prelude.{◌≡◌, ◌-◌, ◌^◌, ℕ, length, min};
 ghost use Rattle.store_rows.specs.Spans.{AreDrawn, Drawn};
 ghost use Rattle.staged_rows.specs.Staging.{rows_of_import};
+ghost use Rattle.staging.specs.Counts.{RowCount, a_stage_more, after_stages};
 ghost use Rattle.staging.specs.Opened.{AreLater};
 
 use crate::later::Later;
 use crate::opened::OpenImport;
 use crate::writing::STAGE;
 use archive_state::Numbered;
-use std::alloc::Global;
 
-/// Who is told how far an import is. It promises nothing, and what becomes of the import does not depend on it.
+/// Who is told how far an import is. What becomes of the import does not depend on it.
 pub trait Progress {
-    /// An import is open, of which no row is written yet.
-    fn begun(&mut self, alloc: Global, import: &OpenImport);
+    /// Between the two it was told this count.
+    ghost Tells: { Self → RowCount → Self → Type 0 };
 
-    /// Rows of an import are written: the next 256, or all that were left.
-    fn staged(&mut self, import: &OpenImport);
+    /// An import is open, of which no row is written yet.
+    fn begun(&mut self, rows: RowCount)
+        ensures { Tells self.old rows self.new };
+
+    /// Rows of an import are written: 256 more, or all that were left.
+    fn staged(&mut self, rows: RowCount)
+        ensures { Tells self.old rows self.new };
 }
 
 /// Nobody is told.
@@ -25,9 +30,11 @@ pub trait Progress {
 pub struct Silent;
 
 impl Progress for Silent {
-    fn begun(&mut self, _alloc: Global, _import: &OpenImport) {}
+    ghost Tells = { λ before _ after. after ≡ before };
 
-    fn staged(&mut self, _import: &OpenImport) {}
+    fn begun(&mut self, _rows: RowCount) {}
+
+    fn staged(&mut self, _rows: RowCount) {}
 }
 
 /// How many rows of an import are written, and how many it has. Each number stops at 2^64 - 1.
@@ -40,9 +47,8 @@ pub struct RowCount {
 impl RowCount {
     /// Of an import of which no row is written.
     pub fn new(import: &OpenImport) -> RowCount
-        ensures written { result.written ≡ 0 }
-        ensures all { (drawn : Drawn) → AreDrawn import.now.changes.puts drawn
-            → result.all ≡ min (length (rows_of_import import.now.batch import.now.changes.puts drawn)) (2 ^ 64 - 1) }
+        ensures { (drawn : Drawn) → AreDrawn import.now.changes.puts drawn
+            → result ≡ after_stages (length (rows_of_import import.now.batch import.now.changes.puts drawn)) 0 }
     {
         RowCount {
             written: 0,
@@ -52,15 +58,14 @@ impl RowCount {
 
     /// A stage more: 256 rows are written, or all that were left.
     pub fn go_on(&mut self)
-        ensures same { self.new.all ≡ self.old.all }
-        ensures counted { (left : ℕ) → self.old.written + left ≡ self.old.all
-            → self.new.written + (left - 256) ≡ self.new.all }
+        ensures { self.new ≡ a_stage_more self.old }
     {
         self.written = self.written.saturating_add(STAGE as usize).min(self.all);
     }
 }
 
-/// How many rows the import of these records has: two for each record, and those that come behind the lines.
+/// How many rows the import of these records has, at most 2^64 - 1: two for each record, and those that come behind the
+/// lines.
 fn count_rows(puts: &[Numbered], later: &Later) -> usize
     requires later { AreLater puts.now later.now }
     ensures { (batch : ℕ) (drawn : Drawn) → AreDrawn puts.now drawn

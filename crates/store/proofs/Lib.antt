@@ -14,5 +14,6 @@ pub mod Running
 mod Seen
 mod Sessions
 mod Steps
+pub mod Told
 mod Unchanged
 pub mod Viewed

@@ -66,7 +66,7 @@ goes_on first now next left was is =
     is ∙ ap (λ (i : Import). record i { left = left }) was
     ∙ ap (λ (i : Import). record first { left = i.left }) (sym is)
 
-some_long : (rows : List StagedRow) → rows ≢ [] → 0 < length rows
+pub some_long : (rows : List StagedRow) → rows ≢ [] → 0 < length rows
 some_long [] some = absurd (some refl)
 some_long (row ∷ rows) some = omega arith
 

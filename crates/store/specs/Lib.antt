@@ -9,4 +9,5 @@ pub mod Lives
 pub mod Looking
 pub mod Shut
 pub mod Standing
+pub mod Telling
 pub mod Viewing

@@ -62,6 +62,7 @@ pub(crate) fn begin_on<S: Alter>(
     ensures quiet { HasCleanDisk (state S.Store archive.new.conn) → OnArchive (state S.Store archive.old.conn)
         (λ society c rows. OnOk result (archive.new.failures ≡ 0)) }
     ensures clean { HasCleanDisk (state S.Store archive.new.conn) → HasCleanDisk (state S.Store archive.old.conn) }
+    ensures whole { IfOk result (λ begun. IfSome begun.1 (λ i. IsWhole i.batch i.changes i)) }
     ensures ended { archive.new.conn.in_transaction ≡ false }
 {
     match try_begin(alloc, archive, token, forest) {
@@ -96,6 +97,7 @@ fn try_begin<S: Alter>(
     ensures quiet { HasCleanDisk (state S.Store archive.new.conn) → OnArchive (state S.Store archive.old.conn)
         (λ society c rows. OnOk result (archive.new.failures ≡ 0)) }
     ensures clean { HasCleanDisk (state S.Store archive.new.conn) → HasCleanDisk (state S.Store archive.old.conn) }
+    ensures whole { IfOk result (λ begun. IfSome begun.1 (λ i. IsWhole i.batch i.changes i)) }
 {
     nothing_is_there_of_the_next_batch();
     an_import_that_is_begun_is_in_no_view();

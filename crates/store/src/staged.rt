@@ -1,6 +1,22 @@
 //! A request to import: the steps of a staged import, one after the other.
 
-ghost use Rattle.std.specs.Prelude.{◌≡◌, ◌≢◌, ℕ, List, [], ◌∷◌, false, true, None, IfOk, IfErr, IfSome, OnOk, OnErr};
+ghost use Rattle.std.specs.Prelude.{
+  ◌≡◌,
+  ◌≢◌,
+  ℕ,
+  List,
+  [],
+  ◌∷◌,
+  false,
+  length,
+  true,
+  None,
+  IfOk,
+  IfErr,
+  IfSome,
+  OnOk,
+  OnErr,
+};
 ghost use Rattle.std.specs.FinMap.{get};
 ghost use Rattle.sqlite.specs.State.{HasCleanDisk};
 ghost use Rattle.sqlite.specs.Held.{state};
@@ -10,6 +26,8 @@ ghost use Rattle.archive_core.specs.Machine.{import_of};
 ghost use Rattle.archive_core.specs.declared.request.Request.{Request};
 ghost use Rattle.archive_view.specs.Looks.{is_stop};
 ghost use Rattle.store_tables.specs.Calls.{LeavesOnly, Settled};
+ghost use Rattle.staging.specs.Counts.{TellsAll, TellsSome};
+ghost use Rattle.import_commits.specs.Commits.{IsWhole};
 ghost use Rattle.store.specs.Archives.{LeavesArchive};
 ghost use Rattle.store.specs.Calls.{AcknowledgedBy, Acknowledges, LeavesDoneOrNot, OnArchive, Performs};
 ghost use Rattle.store.specs.Histories.{is_storage};
@@ -23,7 +41,7 @@ use archive_core::Forest;
 use archive_state::{Answer, Token};
 use record_text::{Refusal, RefusalKind};
 use sqlite::{Alter, Connection};
-use staging::{OpenImport, Progress};
+use staging::{OpenImport, Progress, RowCount};
 use std::alloc::Global;
 
 /// Imports a forest into an archive, in commits of at most 256 rows; the last of them publishes all. After any refusal
@@ -81,12 +99,16 @@ pub(crate) fn finish_begun<S: Alter, P: Progress>(
         → LeavesDoneOrNot (state S.Store conn.new) society c r) }
     ensures clean { HasCleanDisk (state S.Store conn.new) → HasCleanDisk (state S.Store conn.old) }
     ensures ended { conn.new.in_transaction ≡ false }
+    ensures silent { begun ≡ None → progress.new ≡ progress.old }
+    ensures told { IfSome begun (λ i. IsWhole i.batch i.changes i
+        → TellsSome P.Tells (length i.left) progress.old progress.new) }
+    ensures told_all { OnOk result (IfSome begun (λ i. IsWhole i.batch i.changes i
+        → TellsAll P.Tells (length i.left) progress.old progress.new)) }
 {
     match begun {
         None => Ok(()),
         Some(import) => {
             let mut import = import;
-            progress.begun(alloc, &import);
             finish_on(alloc, conn, &mut import, progress)
         }
     }
@@ -114,6 +136,10 @@ fn finish_on<S: Alter, P: Progress>(
         → LeavesDoneOrNot (state S.Store conn.new) society c r }
     ensures clean { HasCleanDisk (state S.Store conn.new) → HasCleanDisk (state S.Store conn.old) }
     ensures ended { conn.new.in_transaction ≡ false }
+    ensures told { IsWhole import.old.batch import.old.changes import.old
+        → TellsSome P.Tells (length import.old.left) progress.old progress.new }
+    ensures told_all { OnOk result (IsWhole import.old.batch import.old.changes import.old
+        → TellsAll P.Tells (length import.old.left) progress.old progress.new) }
 {
     match stage_all(alloc, conn, import, progress) {
         Ok(()) => publish_on(conn, import),
@@ -121,7 +147,7 @@ fn finish_on<S: Alter, P: Progress>(
     }
 }
 
-/// Writes all rows of an import that are left, 256 in each commit.
+/// Writes all rows of an import that are left, 256 in each commit, and tells how far it is.
 ///
 /// 80: the database failed, and further rows are written or not. 1: memory was refused, and the import is still on.
 fn stage_all<S: Alter, P: Progress>(
@@ -142,10 +168,19 @@ fn stage_all<S: Alter, P: Progress>(
         → LeavesArchive (state S.Store conn.new) society (λ found. found ≡ c)) }
     ensures clean { HasCleanDisk (state S.Store conn.new) → HasCleanDisk (state S.Store conn.old) }
     ensures ended { conn.new.in_transaction ≡ false }
+    ensures told { IsWhole import.old.batch import.old.changes import.old
+        → TellsSome P.Tells (length import.old.left) progress.old progress.new }
+    ensures told_all { OnOk result (IsWhole import.old.batch import.old.changes import.old
+        → TellsAll P.Tells (length import.old.left) progress.old progress.new) }
 {
+    let mut rows = RowCount::new(import);
+    progress.begun(rows);
     'stages: while import.has_more() {
         match stage_on(alloc, conn, import) {
-            Ok(_) => progress.staged(import),
+            Ok(_) => {
+                rows.go_on();
+                progress.staged(rows);
+            }
             Err(kind) => return Err(kind),
         }
     }

@@ -25,12 +25,14 @@ ghost use Rattle.archive_core.specs.Steps.{refused_at};
 ghost use Rattle.archive_core.specs.declared.request.Request.{Request};
 ghost use Rattle.archive_view.specs.Looks.{is_stop};
 ghost use Rattle.store_tables.specs.Calls.{LeavesOnly, Settled};
+ghost use Rattle.import_commits.specs.Commits.{IsWhole};
 ghost use Rattle.store.specs.Archives.{LeavesArchive};
 ghost use Rattle.store.specs.Calls.{Acknowledges, OnArchive, Performs};
 ghost use Rattle.store.specs.Histories.{has_failed, is_storage};
 ghost use Rattle.store.specs.Importing.{HasAnswered, HasBegun};
 ghost use Rattle.store.specs.Lives.{IsCall};
 ghost use Rattle.store.specs.Standing.{heard, must_wait, shuts, standing};
+ghost use Rattle.store.specs.Telling.{TellsDone, TellsImport};
 
 use crate::archive::Archive;
 use crate::beginning::begin_on;
@@ -81,6 +83,10 @@ impl<S: Alter> Archive<S> {
         ensures called { (r : Request) → IsCall S.Store self.old.conn (standing r self.old.is_lost self.old.import)
             (heard (shuts self.old.is_lost self.old.import) ((import_of token.now forest, result) ∷ [])) self.new.conn
             (standing r self.new.is_lost self.new.import) }
+        ensures told { TellsImport P.Tells progress.old progress.new }
+        ensures told_done { HasCleanDisk (state S.Store self.new.conn) → OnOk result (OnArchive
+            (state S.Store self.old.conn) (λ society c rows. TellsDone P.Tells c (import_of token.now forest)
+            progress.old progress.new)) }
     {
         if self.is_lost {
             return Err(RefusalKind::Reopen.into());
@@ -117,6 +123,10 @@ fn import_whole<S: Alter, P: Progress>(
     ensures placed { IfErr result (λ e. is_stop e.kind ≡ true → e.at ≡ None) }
     ensures quiet { HasCleanDisk (state S.Store archive.new.conn) → OnArchive (state S.Store archive.old.conn)
         (λ society c rows. OnOk result (archive.new.failures ≡ 0)) }
+    ensures told { TellsImport P.Tells progress.old progress.new }
+    ensures told_done { HasCleanDisk (state S.Store archive.new.conn) → OnOk result (OnArchive
+        (state S.Store archive.old.conn) (λ society c rows. TellsDone P.Tells c (import_of token.now forest)
+        progress.old progress.new)) }
 {
     match begin_given(alloc, archive, token, forest) {
         Ok((answer, begun)) => match finish_begun(alloc, &mut archive.conn, begun, progress) {
@@ -153,6 +163,7 @@ fn begin_given<S: Alter>(
     ensures quiet { HasCleanDisk (state S.Store archive.new.conn) → OnArchive (state S.Store archive.old.conn)
         (λ society c rows. OnOk result (archive.new.failures ≡ 0)) }
     ensures clean { HasCleanDisk (state S.Store archive.new.conn) → HasCleanDisk (state S.Store archive.old.conn) }
+    ensures whole { IfOk result (λ begun. IfSome begun.1 (λ i. IsWhole i.batch i.changes i)) }
     ensures ended { archive.new.conn.in_transaction ≡ false }
 {
     let begun = begin_on(alloc, archive, token, &forest);

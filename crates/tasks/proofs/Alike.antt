@@ -55,7 +55,8 @@ Agree Same (Err kind) (Ok done) = HasFailed kind
 Agree Same (Err kind) (Err other) = (kind ≡ other) ⊎ (HasFailed kind ⊎ HasFailed other)
 
 module _ {S R W F : Type 0} (g : Ghosts S) (reader : read.Ghosts R) (reads : device.Ghosts R) (writer : write.Ghosts W)
-    (writes : device.Ghosts W) (faulter : write.Ghosts F) (today : ℤ) (society : List ℕ) (c d : Content)
+    (writes : device.Ghosts W) (faulter : write.Ghosts F) (fails : device.Ghosts F) (today : ℤ) (society : List ℕ)
+    (c d : Content)
     (differ : DifferInHidden c d today)
     (printed : (a b : Content) (today : ℤ) (sheet : Sheet) (x y v w : Option (List ℕ)) → DifferInHidden a b today
     → IsSheetWritten x y sheet today a → IsSheetWritten v w sheet today b → GotTheSame x y v w)
@@ -124,8 +125,8 @@ module _ {S R W F : Type 0} (g : Ghosts S) (reader : read.Ghosts R) (reads : dev
   before m between = record { archive = m.archive; input = m.input; output = m.output; faults = between }
 
   sheets : (sheet : Sheet) (x z : F) (r q : Plain)
-      → PrintsSheet g reader reads writer writes faulter a (before b x) sheet today r
-      → PrintsSheet g reader reads writer writes faulter v (before w z) sheet today q → Agree GotSame r q
+      → PrintsSheet g reader reads writer writes faulter fails a (before b x) sheet today r
+      → PrintsSheet g reader reads writer writes faulter fails v (before w z) sheet today q → Agree GotSame r q
   sheets sheet x z (Ok done) (Ok _) one two = printed c d today sheet _ _ _ _ differ
       ((one.written over.clean).1 society c over.has).0 ((two.written also.clean).1 society d also.has).0
   sheets sheet x z (Ok done) (Err kind) one two = cut c d today sheet _ _ _ _ kind differ
@@ -135,8 +136,8 @@ module _ {S R W F : Type 0} (g : Ghosts S) (reader : read.Ghosts R) (reads : dev
   sheets sheet x z (Err kind) (Err other) one two = refused c d today sheet _ _ _ _ kind other differ
       ((one.refused over.clean).1 society c over.has).0 ((two.refused also.clean).1 society d also.has).0
 
-  exports : (x z : F) (r q : Plain) → Publishes g reader reads writer writes faulter a (before b x) today r
-      → Publishes g reader reads writer writes faulter v (before w z) today q → Agree GotSame r q
+  exports : (x z : F) (r q : Plain) → Publishes g reader reads writer writes faulter fails a (before b x) today r
+      → Publishes g reader reads writer writes faulter fails v (before w z) today q → Agree GotSame r q
   exports x z (Ok done) (Ok _) one two = published c d today society _ _ _ _ differ
       ((one.written over.clean).1 society c over.has).0 ((two.written also.clean).1 society d also.has).0
   exports x z (Ok done) (Err kind) one two = part c d today society _ _ _ _ kind differ
@@ -171,8 +172,8 @@ module _ {S R W F : Type 0} (g : Ghosts S) (reader : read.Ghosts R) (reads : dev
   none_shown None (Some t) is so = let wrong : ⊥ = cc in absurd wrong
 
   pub ends_alike : (t : Task) (shown more : Option Content)
-      (e : Ends g reader reads writer writes faulter t a b status shown)
-      (f : Ends g reader reads writer writes faulter t v w number more) → ShowsOn t today
+      (e : Ends g reader reads writer writes faulter fails t a b status shown)
+      (f : Ends g reader reads writer writes faulter fails t v w number more) → ShowsOn t today
       → IsCutShort e.outcome
       ⊎ (IsCutShort f.outcome ⊎ EndAlike writer.contents a b v w e.outcome f.outcome status number shown more)
   ends_alike (task.Sheet sheet day) shown more e f is =
@@ -181,10 +182,10 @@ module _ {S R W F : Type 0} (g : Ghosts S) (reader : read.Ghosts R) (reads : dev
       by_plain shown more e.outcome f.outcome e.between f.between e.finishes f.finishes one.0.0 two.0.0
       (sheets sheet e.between f.between one.0.0 two.0.0
       (subst
-      (λ (t : ℤ). PrintsSheet g reader reads writer writes faulter a (before b e.between) sheet t one.0.0) is
+      (λ (t : ℤ). PrintsSheet g reader reads writer writes faulter fails a (before b e.between) sheet t one.0.0) is
       one.0.2)
       (subst
-      (λ (t : ℤ). PrintsSheet g reader reads writer writes faulter v (before w f.between) sheet t two.0.0) is
+      (λ (t : ℤ). PrintsSheet g reader reads writer writes faulter fails v (before w f.between) sheet t two.0.0) is
       two.0.2))
       one.0.1 two.0.1 (none_shown shown more one.3 two.3)
   ends_alike (task.ExportPublic day) shown more e f is =
@@ -192,8 +193,10 @@ module _ {S R W F : Type 0} (g : Ghosts S) (reader : read.Ghosts R) (reads : dev
       let two = f.does also.kept in
       by_plain shown more e.outcome f.outcome e.between f.between e.finishes f.finishes one.0.0 two.0.0
       (exports e.between f.between one.0.0 two.0.0
-      (subst (λ (t : ℤ). Publishes g reader reads writer writes faulter a (before b e.between) t one.0.0) is one.0.2)
-      (subst (λ (t : ℤ). Publishes g reader reads writer writes faulter v (before w f.between) t two.0.0) is two.0.2))
+      (subst (λ (t : ℤ). Publishes g reader reads writer writes faulter fails a
+      (before b e.between) t one.0.0) is one.0.2)
+      (subst (λ (t : ℤ). Publishes g reader reads writer writes faulter fails v
+      (before w f.between) t two.0.0) is two.0.2))
       one.0.1 two.0.1 (none_shown shown more one.3 two.3)
   ends_alike (task.Library day) shown more e f is =
       let one = e.does over.kept in

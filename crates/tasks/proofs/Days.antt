@@ -34,50 +34,50 @@ library_on old new f d shown e is sound = subst (λ (t : ℤ). Shelves old new t
 )
 
 module _ {S R W F : Type 0} (g : Ghosts S) (reader : read.Ghosts R) (reads : device.Ghosts R) (writer : write.Ghosts W)
-    (writes : device.Ghosts W) (faulter : write.Ghosts F) (a b : Moment g R W F) where
+    (writes : device.Ghosts W) (faulter : write.Ghosts F) (fails : device.Ghosts F) (a b : Moment g R W F) where
   pub publishes_on : (f d : ℤ) (r : Plain) → f ≡ d
-      → OnOk r (OnHeld g reader reads writer writes faulter a b
+      → OnOk r (OnHeld g reader reads writer writes faulter fails a b
       (IsPublished (writer.contents a.output) (writer.contents b.output) f))
-      → IfErr r (λ kind. OnHeld g reader reads writer writes faulter a b
+      → IfErr r (λ kind. OnHeld g reader reads writer writes faulter fails a b
       (IsPartPublished kind (writer.contents a.output) (writer.contents b.output) f))
-      → OnOk r (OnSound g reader reads writer writes faulter a b (λ c. (society : List ℕ)
+      → OnOk r (OnSound g reader reads writer writes faulter fails a b (λ c. (society : List ℕ)
       × IsPublished (writer.contents a.output) (writer.contents b.output) f
       society c))
-      → IsUntouched g reader reads writer writes faulter a b r
-      → IfErr r (λ kind. kind ≡ WriteFailed → HasWriteFailed g reader reads writer writes faulter a b)
-      → LooksAt g reader reads writer writes faulter a b (has_broken r)
-      → Publishes g reader reads writer writes faulter a b d r
+      → IsUntouched g reader reads writer writes faulter fails a b r
+      → IfErr r (λ kind. kind ≡ WriteFailed → HasWriteFailed g reader reads writer writes faulter fails a b)
+      → LooksAt g reader reads writer writes faulter fails a b (has_broken r)
+      → Publishes g reader reads writer writes faulter fails a b d r
   publishes_on f d r e written begun sound unread blamed looks =
-      subst (λ (t : ℤ). Publishes g reader reads writer writes faulter a b t r) e
+      subst (λ (t : ℤ). Publishes g reader reads writer writes faulter fails a b t r) e
       (record { written = written; begun = begun; sound = sound; unread = unread; blamed = blamed; looks = looks })
 
   pub prints_on : (sheet : Sheet) (f d : ℤ) (r : Plain) → f ≡ d
-      → OnOk r (OnHeld g reader reads writer writes faulter a b
+      → OnOk r (OnHeld g reader reads writer writes faulter fails a b
       (λ _ c. IsSheetWritten (writer.contents a.output) (writer.contents b.output) sheet f c))
-      → IfErr r (λ kind. OnHeld g reader reads writer writes faulter a b
+      → IfErr r (λ kind. OnHeld g reader reads writer writes faulter fails a b
       (λ _ c. IsSheetRefused kind (writer.contents a.output) (writer.contents b.output) sheet f c))
-      → OnOk r (OnSound g reader reads writer writes faulter a b
+      → OnOk r (OnSound g reader reads writer writes faulter fails a b
       (λ c. IsSheetWritten (writer.contents a.output) (writer.contents b.output) sheet f c))
-      → IsUntouched g reader reads writer writes faulter a b r
-      → IfErr r (λ kind. kind ≡ WriteFailed → HasWriteFailed g reader reads writer writes faulter a b)
-      → LooksAt g reader reads writer writes faulter a b (has_broken r)
-      → PrintsSheet g reader reads writer writes faulter a b sheet d r
+      → IsUntouched g reader reads writer writes faulter fails a b r
+      → IfErr r (λ kind. kind ≡ WriteFailed → HasWriteFailed g reader reads writer writes faulter fails a b)
+      → LooksAt g reader reads writer writes faulter fails a b (has_broken r)
+      → PrintsSheet g reader reads writer writes faulter fails a b sheet d r
   prints_on sheet f d r e written refused sound unread blamed looks =
-      subst (λ (t : ℤ). PrintsSheet g reader reads writer writes faulter a b sheet t r) e
+      subst (λ (t : ℤ). PrintsSheet g reader reads writer writes faulter fails a b sheet t r) e
       (record { written = written; refused = refused; sound = sound; unread = unread; blamed = blamed; looks = looks })
 
   pub lists_on : (words : Bool) (f first l last : ℤ) (r : Plain) → f ≡ first → l ≡ last
-      → OnOk r ((f ≤ℤ l) × OnHeld g reader reads writer writes faulter a b
+      → OnOk r ((f ≤ℤ l) × OnHeld g reader reads writer writes faulter fails a b
       (λ _ c. AreWritten words f l (writer.contents a.output) (writer.contents b.output) c))
       → IfErr r (λ kind. (AreReversed kind f l (writer.contents a.output) (writer.contents b.output)
       × (b.archive.conn ≡ a.archive.conn))
-      ⊎ ((f ≤ℤ l) × OnHeld g reader reads writer writes faulter a b
+      ⊎ ((f ≤ℤ l) × OnHeld g reader reads writer writes faulter fails a b
       (λ _ c. AreCut kind words f l (writer.contents a.output) (writer.contents b.output) c)))
-      → IsUntouched g reader reads writer writes faulter a b r
-      → IfErr r (λ kind. kind ≡ WriteFailed → HasWriteFailed g reader reads writer writes faulter a b)
-      → LooksAt g reader reads writer writes faulter a b (has_broken r)
-      → ListsDays g reader reads writer writes faulter a b words first last r
+      → IsUntouched g reader reads writer writes faulter fails a b r
+      → IfErr r (λ kind. kind ≡ WriteFailed → HasWriteFailed g reader reads writer writes faulter fails a b)
+      → LooksAt g reader reads writer writes faulter fails a b (has_broken r)
+      → ListsDays g reader reads writer writes faulter fails a b words first last r
   lists_on words f first l last r e h written cut unread blamed looks =
-      subst (λ (t : ℤ). ListsDays g reader reads writer writes faulter a b words t last r) e
-      (subst (λ (u : ℤ). ListsDays g reader reads writer writes faulter a b words f u r) h
+      subst (λ (t : ℤ). ListsDays g reader reads writer writes faulter fails a b words t last r) e
+      (subst (λ (u : ℤ). ListsDays g reader reads writer writes faulter fails a b words f u r) h
       (record { written = written; cut = cut; unread = unread; blamed = blamed; looks = looks }))

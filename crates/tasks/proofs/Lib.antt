@@ -1,4 +1,5 @@
 mod Alike
+mod Aloud
 mod Blamed
 mod Days
 mod Hiding

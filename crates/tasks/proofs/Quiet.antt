@@ -7,6 +7,7 @@ use Rattle.sqlite_trees.specs.declared.store.Store.{Ghosts}
 use Rattle.archive_state.specs.Content.{Content}
 use Rattle.devices.specs.declared.device.Device as device
 use Rattle.tasks.specs.Ends.{Does, Ends}
+use Rattle.tasks.proofs.Aloud.{far_quiet}
 use Rattle.tasks.specs.Moments.{Moment}
 use Rattle.tasks.specs.Status.{Finishes, Outcome}
 use Rattle.tasks.specs.declared.task.Task.{Task}
@@ -40,12 +41,13 @@ either_way false P kept lost = kept refl
 either_way true P kept lost = lost refl
 
 module _ {S R W F : Type 0} (g : Ghosts S) (reader : read.Ghosts R) (reads : device.Ghosts R) (writer : write.Ghosts W)
-    (writes : device.Ghosts W) (faulter : write.Ghosts F) where
+    (writes : device.Ghosts W) (faulter : write.Ghosts F) (fails : device.Ghosts F) where
   does_quietly : (t : Task) (a b : Moment g R W F) (o : Outcome) (shown : Option Content)
-      → Does g reader reads writer writes faulter a b t o shown → says t ≡ false → OnOk o (b.faults ≡ a.faults)
+      → Does g reader reads writer writes faulter fails a b t o shown → says t ≡ false → OnOk o (b.faults ≡ a.faults)
   does_quietly task.Apply a b o shown did is = absurd (true≢false is)
   does_quietly (task.Entries token source) a b o shown did is = on_ok o did.1
-  does_quietly (task.Import token progress) a b o shown did is = on_ok o (did.1 is)
+  does_quietly (task.Import token progress) a b o shown did is =
+      on_ok o (far_quiet g reader reads writer writes faulter fails a b progress token o is did.1)
   does_quietly task.Export a b o shown did is = on_ok o did.2
   does_quietly (task.ExportPublic today) a b o shown did is = on_ok o did.2
   does_quietly (task.Sheet sheet today) a b o shown did is = on_ok o did.2
@@ -54,11 +56,11 @@ module _ {S R W F : Type 0} (g : Ghosts S) (reader : read.Ghosts R) (reads : dev
   does_quietly (task.Days first last words) a b o shown did is = on_ok o did.2
 
   pub ends_at_most_1 : (t : Task) (a b : Moment g R W F) (status : ℕ) (shown : Option Content)
-      → Ends g reader reads writer writes faulter t a b status shown → status ≤ 1
+      → Ends g reader reads writer writes faulter fails t a b status shown → status ≤ 1
   ends_at_most_1 t a b status shown e = at_most_1 faulter.contents e.outcome status e.between b.faults e.finishes
 
   pub ends_quietly : (t : Task) (a b : Moment g R W F) (status : ℕ) (shown : Option Content)
-      → Ends g reader reads writer writes faulter t a b status shown → says t ≡ false → status ≡ 0
+      → Ends g reader reads writer writes faulter fails t a b status shown → says t ≡ false → status ≡ 0
       → b.faults ≡ a.faults
   ends_quietly t a b status shown e is zero =
       let quiet = either_way a.archive.is_lost (OnOk e.outcome (e.between ≡ a.faults))

@@ -35,7 +35,7 @@ use Rattle.batch_reading.specs.Input.{row_bytes}
 use Rattle.day_lists.specs.Ends.{AreCut, AreReversed, AreWritten}
 use Rattle.devices.specs.Devices.{Rose}
 use Rattle.devices.specs.declared.device.Device as device
-use Rattle.file_imports.specs.Importing.{ImportsAll, IsUntold}
+use Rattle.file_imports.specs.Importing.{ImportsAll, IsUntold, TellsImported}
 use Rattle.file_imports.specs.Telling.{import_text}
 use Rattle.gedcom_export.specs.Ends.{IsWhole}
 use Rattle.receipts.specs.declared.answer.Answer.{Answer}
@@ -48,8 +48,10 @@ use Rattle.shown_archives.specs.Writing.{IsPartPublished, IsPublished, IsSheetRe
 use Rattle.shown_archives.specs.declared.sheet.Sheet.{Sheet}
 use Rattle.store.specs.Calls.{Reads}
 use Rattle.store.specs.Histories.{has_broken}
+use Rattle.store.specs.Telling.{TellsImport}
 use Rattle.tables.specs.Entering.{Enters, IsNoBatch}
 use Rattle.tables.specs.RowByRow.{AppliedInTurn, EndedInTurn, Moment as RowMoment}
+use Rattle.tasks.specs.Counts.{SaysCount, SaysPart}
 use Rattle.tasks.specs.Moments.{Moment}
 use Rattle.tasks.specs.Parts.{IsPrintedPart, PrintsAudit, Shelves}
 use Rattle.tasks.specs.Status.{Finishes, Outcome, Plain, as_text, is_80, placeless_text}
@@ -68,7 +70,7 @@ pub record IsAudit (old : State) (audit : Audit) (new : State) : Type 0 where
   pub reads : Reads IsCount old (without_fault audit) new
 
 module _ {S R W F : Type 0} (g : Ghosts S) (reader : read.Ghosts R) (reads : device.Ghosts R) (writer : write.Ghosts W)
-    (writes : device.Ghosts W) (faulter : write.Ghosts F) (a b : Moment g R W F) where
+    (writes : device.Ghosts W) (faulter : write.Ghosts F) (fails : device.Ghosts F) (a b : Moment g R W F) where
   -- ---- the streams and the archive between the two moments
   abbrev pub HasReadFailed : Type 0
   HasReadFailed = Rose (reads.failed a.input) (reads.failed b.input)
@@ -155,6 +157,14 @@ module _ {S R W F : Type 0} (g : Ghosts S) (reader : read.Ghosts R) (reads : dev
         ⊎ ((answer : Answer) × (report : List ReportLine) × (kind : RefusalKind) × (t ≡ placeless_text kind)
         × FileWhole token answer report × PrintsPart (import_text answer report) kind))
 
+  -- what an import says on the faults: nothing; or with `progress` the lines of its counts, or beginnings of these, and
+  -- where it is done all that are due
+  abbrev pub SaysHowFar : Bool → List ℕ → Outcome → Type 0
+  SaysHowFar false token outcome = IsQuiet
+  SaysHowFar true token outcome = TellsImport (SaysPart faulter.contents fails.failed) a.faults b.faults
+      × OnOk outcome (TellsImported g (SaysCount faulter.contents fails.failed) token (reader.remaining a.input)
+      a.archive b.archive a.faults b.faults)
+
   -- ---- texts of the archive, which is not changed
   -- all of it as a file, under the name of its society; or a beginning of that
   pub record Exports (r : Plain) : Type 0 where
@@ -226,7 +236,7 @@ module _ {S R W F : Type 0} (g : Ghosts S) (reader : read.Ghosts R) (reads : dev
   abbrev pub Does : Task → Outcome → Option Content → Type 0
   Does task.Apply outcome shown = Ended outcome Applies × (shown ≡ None)
   Does (task.Entries token source) outcome shown = EntersBatch token source outcome × IsQuiet × (shown ≡ None)
-  Does (task.Import token progress) outcome shown = ImportsFile token outcome × (progress ≡ false → IsQuiet)
+  Does (task.Import token progress) outcome shown = ImportsFile token outcome × SaysHowFar progress token outcome
       × (shown ≡ None)
   Does task.Export outcome shown = Ended outcome Exports × IsUnread × IsQuiet × (shown ≡ None)
   Does (task.ExportPublic today) outcome shown = Ended outcome (Publishes today) × IsUnread × IsQuiet × (shown ≡ None)
@@ -247,12 +257,12 @@ module _ {S R W F : Type 0} (g : Ghosts S) (reader : read.Ghosts R) (reads : dev
 -- a task was done, unless the archive was lost before, and then its status was made of its outcome, with the line of a
 -- refusal on the faults
 module _ {S R W F : Type 0} (g : Ghosts S) (reader : read.Ghosts R) (reads : device.Ghosts R) (writer : write.Ghosts W)
-    (writes : device.Ghosts W) (faulter : write.Ghosts F) where
+    (writes : device.Ghosts W) (faulter : write.Ghosts F) (fails : device.Ghosts F) where
   pub record Ends (task : Task) (a b : Moment g R W F) (status : ℕ) (shown : Option Content) : Type 0 where
     pub outcome : Outcome
     pub between : F
-    pub does : a.archive.is_lost ≡ false → Does g reader reads writer writes faulter a
+    pub does : a.archive.is_lost ≡ false → Does g reader reads writer writes faulter fails a
         (record { archive = b.archive; input = b.input; output = b.output; faults = between }) task outcome shown
-    pub reopen : a.archive.is_lost ≡ true → MustReopen g reader reads writer writes faulter a
+    pub reopen : a.archive.is_lost ≡ true → MustReopen g reader reads writer writes faulter fails a
         (record { archive = b.archive; input = b.input; output = b.output; faults = between }) outcome shown
     pub finishes : Finishes faulter.contents outcome status between b.faults

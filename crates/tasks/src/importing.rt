@@ -1,14 +1,16 @@
 //! A GEDCOM file, imported into an archive, and what is printed of it.
 
-ghost use Rattle.std.specs.Prelude.{◌≡◌, ◌⊎◌, Err, IfErr, IfOk, Ok, OnOk, false};
+ghost use Rattle.std.specs.Prelude.{◌≡◌, ◌⊎◌, Err, IfErr, IfOk, Ok, OnOk, false, true};
 ghost use Rattle.std.specs.Io.KnownBytes.{Appends, Keeps};
 ghost use Rattle.devices.specs.Devices.{Rose};
-ghost use Rattle.file_imports.specs.Importing.{Imports, ImportsAll, ImportsSilently, IsNoFile};
+ghost use Rattle.store.specs.Telling.{TellsImport};
+ghost use Rattle.file_imports.specs.Importing.{Imports, ImportsAll, ImportsSilently, IsNoFile, IsUntold, TellsImported};
 ghost use Rattle.file_imports.specs.Telling as telling;
 ghost use Rattle.receipts.specs.declared.answer.Answer.{Answer as SpecAnswer};
 ghost use Rattle.receipts.specs.declared.report.ReportLine.{ReportLine as SpecLine};
 ghost use Rattle.record_text.specs.declared.refusal.RefusalKind.{RefusalKind as SpecKind};
 ghost use Rattle.std.specs.Prelude.{List};
+ghost use Rattle.tasks.specs.Counts.{SaysCount, SaysPart};
 ghost use Rattle.tasks.specs.Parts.{IsPrintedPart};
 ghost use Rattle.tasks.specs.Status.{placeless_text};
 
@@ -29,7 +31,8 @@ use store::{Archive, Silent};
 /// With `progress` the faults get how far it is.
 ///
 /// Refusals as of `file_imports::import`, with the line; nothing is printed then. 95: the output failed. 1: no memory
-/// was found for what is printed. At these two the file was imported, and a beginning may be printed.
+/// was found for what is printed, or by the faults for a line of `progress`. At these two the file was imported, and a
+/// beginning may be printed.
 pub(crate) fn import_file<
     S: Alter,
     C: Clock,
@@ -59,6 +62,9 @@ pub(crate) fn import_file<
         × IsPrintedPart (telling.import_text answer report) kind (W.contents output.old) (W.contents output.new)
         (Rose (W.failed output.old) (W.failed output.new)))) }
     ensures silent { progress ≡ false → faults.new ≡ faults.old }
+    ensures told { progress ≡ true → TellsImport (SaysPart F.contents F.failed) faults.old faults.new }
+    ensures told_done { progress ≡ true → OnOk result (TellsImported S.Store (SaysCount F.contents F.failed) token
+        (R.remaining input.old) archive.old archive.new faults.old faults.new) }
 {
     match take_in(alloc, clock, archive, token, progress, input, faults) {
         Ok((answer, report)) => match print_imported(alloc, answer, &report, output) {
@@ -86,18 +92,76 @@ fn take_in<S: Alter, C: Clock, R: Read + Device, F: Write + Device>(
         ⊎ ((archive.new ≡ archive.old) × IsNoFile (R.remaining input.old) e
         (Rose (R.failed input.old) (R.failed input.new))))) }
     ensures silent { progress ≡ false → faults.new ≡ faults.old }
+    ensures told { progress ≡ true → TellsImport (SaysPart F.contents F.failed) faults.old faults.new }
+    ensures told_done { progress ≡ true → OnOk result (TellsImported S.Store (SaysCount F.contents F.failed) token
+        (R.remaining input.old) archive.old archive.new faults.old faults.new) }
 {
     if progress {
-        import(
-            alloc,
-            archive,
-            token,
-            input,
-            &mut ProgressLines::new(clock, faults),
-        )
+        take_in_aloud(alloc, clock, archive, token, input, faults)
     } else {
         import(alloc, archive, token, input, &mut Silent)
     }
+}
+
+/// Imports the file of the input, and tells how far it is.
+///
+/// 1 also where the faults found no memory for a line: the file was imported.
+fn take_in_aloud<S: Alter, C: Clock, R: Read + Device, F: Write + Device>(
+    alloc: Global,
+    clock: &C,
+    archive: &mut Archive<S>,
+    token: Token,
+    input: &mut R,
+    faults: &mut F,
+) -> Result<(Answer, Report), Refusal>
+    ensures imported { IfOk result (λ done. ImportsAll S.Store token (R.remaining input.old) archive.old done.0 done.1
+        archive.new) }
+    ensures refused { IfErr result (λ e. Imports S.Store token (R.remaining input.old) archive.old (Err e) archive.new
+        ⊎ (ImportsSilently S.Store token (R.remaining input.old) archive.old e archive.new
+        ⊎ ((archive.new ≡ archive.old) × IsNoFile (R.remaining input.old) e
+        (Rose (R.failed input.old) (R.failed input.new))))) }
+    ensures told { TellsImport (SaysPart F.contents F.failed) faults.old faults.new }
+    ensures told_done { OnOk result (TellsImported S.Store (SaysCount F.contents F.failed) token
+        (R.remaining input.old) archive.old archive.new faults.old faults.new) }
+{
+    let mut lines = ProgressLines {
+        clock,
+        faults,
+        last: None,
+        starved: false,
+    };
+    let outcome = import_aloud(alloc, archive, token, input, &mut lines);
+    let starved = lines.starved;
+    match outcome {
+        Ok(done) => {
+            if starved {
+                drop(done);
+                return Err(RefusalKind::OutOfMemory.into());
+            }
+            Ok(done)
+        }
+        Err(why) => Err(why),
+    }
+}
+
+/// Imports the file of the input, with lines on the faults.
+fn import_aloud<S: Alter, C: Clock, R: Read + Device, F: Write + Device>(
+    alloc: Global,
+    archive: &mut Archive<S>,
+    token: Token,
+    input: &mut R,
+    lines: &mut ProgressLines<'_, C, F>,
+) -> Result<(Answer, Report), Refusal>
+    ensures same_reference { lines.new.faults.ghost_name ≡ lines.old.faults.ghost_name }
+    ensures imported { IfOk result (λ done. ImportsAll S.Store token (R.remaining input.old) archive.old done.0 done.1
+        archive.new) }
+    ensures refused { IfErr result (λ e. IsUntold S.Store token (R.remaining input.old) archive.old e archive.new
+        (Rose (R.failed input.old) (R.failed input.new))) }
+    ensures told { TellsImport (SaysPart F.contents F.failed) lines.old.faults.now lines.new.faults.now }
+    ensures told_done { lines.new.starved ≡ false → OnOk result (TellsImported S.Store (SaysCount F.contents F.failed)
+        token (R.remaining input.old) archive.old archive.new lines.old.faults.now lines.new.faults.now) }
+{
+    import(alloc, archive, token, input, lines)
 }
 
 /// Prints how many records were made, and the report.

@@ -66,8 +66,9 @@ pub fn what_is_hidden_changes_no_run<
 >()
     ensures { (task : Task) (today : ℤ) (society : List ℕ) (c d : Content) (a b v w : Moment S.Store R W F)
         (status number : ℕ) (shown more : Option Content)
-        (first : Ends S.Store R.Read R.Device W.Write W.Device F.Write task a b status shown)
-        (second : Ends S.Store R.Read R.Device W.Write W.Device F.Write task v w number more) → ShowsOn task today
+        (first : Ends S.Store R.Read R.Device W.Write W.Device F.Write F.Device task a b status shown)
+        (second : Ends S.Store R.Read R.Device W.Write W.Device F.Write F.Device task v w number more)
+        → ShowsOn task today
         → DifferInHidden c d today → IsOver S.Store society c a b → IsOver S.Store society d v w
         → IsCutShort first.outcome ⊎ (IsCutShort second.outcome
         ⊎ EndAlike W.Write.contents a b v w first.outcome second.outcome status number shown more) }

@@ -40,7 +40,7 @@ pub fn perform_task<S: Alter, C: Clock, R: Read + Device, W: Write + Device, F: 
     output: &mut W,
     faults: &mut F,
 ) -> (u8, Option<Library>)
-    ensures { Ends S.Store R.Read R.Device W.Write W.Device F.Write task
+    ensures { Ends S.Store R.Read R.Device W.Write W.Device F.Write F.Device task
         (record { archive = archive.old; input = input.old; output = output.old; faults = faults.old })
         (record { archive = archive.new; input = input.new; output = output.new; faults = faults.new })
         result.0 result.1 }
@@ -59,11 +59,11 @@ fn try_task<S: Alter, C: Clock, R: Read + Device, W: Write + Device, F: Write + 
     output: &mut W,
     faults: &mut F,
 ) -> (Result<(), RefusalText>, Option<Library>)
-    ensures does { archive.old.is_lost ≡ false → Does S.Store R.Read R.Device W.Write W.Device F.Write
+    ensures does { archive.old.is_lost ≡ false → Does S.Store R.Read R.Device W.Write W.Device F.Write F.Device
         (record { archive = archive.old; input = input.old; output = output.old; faults = faults.old })
         (record { archive = archive.new; input = input.new; output = output.new; faults = faults.new })
         task result.0 result.1 }
-    ensures reopen { archive.old.is_lost ≡ true → MustReopen S.Store R.Read R.Device W.Write W.Device F.Write
+    ensures reopen { archive.old.is_lost ≡ true → MustReopen S.Store R.Read R.Device W.Write W.Device F.Write F.Device
         (record { archive = archive.old; input = input.old; output = output.old; faults = faults.old })
         (record { archive = archive.new; input = input.new; output = output.new; faults = faults.new })
         result.0 result.1 }
@@ -85,7 +85,7 @@ fn do_task<S: Alter, C: Clock, R: Read + Device, W: Write + Device, F: Write + D
     faults: &mut F,
 ) -> (Result<(), RefusalText>, Option<Library>)
     requires kept { archive.old.is_lost ≡ false }
-    ensures { Does S.Store R.Read R.Device W.Write W.Device F.Write
+    ensures { Does S.Store R.Read R.Device W.Write W.Device F.Write F.Device
         (record { archive = archive.old; input = input.old; output = output.old; faults = faults.old })
         (record { archive = archive.new; input = input.new; output = output.new; faults = faults.new })
         task result.0 result.1 }

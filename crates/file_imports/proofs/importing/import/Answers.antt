@@ -1,6 +1,10 @@
 use Rattle.std.proofs.Common.{inr, refl}
+use Rattle.sqlite.specs.Held.{state}
+use Rattle.archive_core.specs.Machine.{import_of}
+use Rattle.store.specs.Calls.{OnArchive}
+use Rattle.store.specs.Telling.{TellsDone}
 use Rattle.gedcom_rules.specs.Views.{fault_view}
-use Rattle.file_imports.proofs.Imported.{all_imported, none_imported}
+use Rattle.file_imports.proofs.Imported.{all_imported, file_told, none_imported}
 use Rattle.file_imports.proofs.importing.import.Goals as goal
 
 pub returns-in-Ok-clause-imported : goal.returns-in-Ok-clause-imported
@@ -16,3 +20,12 @@ returns-in-Ok-clause-refused g c =
 pub returns-in-Err-clause-refused : goal.returns-in-Err-clause-refused
 returns-in-Err-clause-refused g c =
     inr (inr (refl, (fault_view c.in-Err.fault, c.refusal_of.ensures, c.in-Err.ensures.fault)))
+
+pub returns-in-Ok-clause-told_done : goal.returns-in-Ok-clause-told_done
+returns-in-Ok-clause-told_done g c =
+    file_told (g.R.Read.remaining c.args.input.now)
+    (λ forest. OnArchive (state g.S.Store c.args.archive.now.conn) (λ society content rows.
+    TellsDone g.P.Progress.Tells content (import_of c.args.token forest) c.args.progress.now
+    c.import_forest.new.progress))
+    c.in-Ok.forest (c.in-Ok.ensures.forest, c.in-Ok.ensures.read) c.import_forest.result
+    c.import_forest.ensures.told_done

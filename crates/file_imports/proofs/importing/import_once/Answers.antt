@@ -2,8 +2,8 @@ use Rattle.archive_core.specs.Machine.{import_of}
 use Rattle.tables.proofs.Refused.{refused_shut}
 use Rattle.file_imports.proofs.importing.import_once.Goals as goal
 
-pub returns : goal.returns
-returns g c =
+pub returns-clause-steps : goal.returns-clause-steps
+returns-clause-steps g c =
     let did = c.import-outcome.ensures in (
       did.performs,
       did.lost,

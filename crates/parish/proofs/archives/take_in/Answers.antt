@@ -7,7 +7,7 @@ use Rattle.parish.proofs.archives.take_in.Goals as goal
 pub returns-in-Ok : goal.returns-in-Ok
 returns-in-Ok g c = inr (
   c.in-Ok.ensures.given.1,
-  under_token g.R.Read g.R.Device g.W.Write g.W.Device g.F.Write (image_at g.S.Start) _ _ _ _ _
+  under_token g.R.Read g.R.Device g.W.Write g.W.Device g.F.Write g.F.Device (image_at g.S.Start) _ _ _ _ _
       (λ (t : List ℕ). task.Import t c.args.progress) _ _ c.in-Ok.ensures.given.0 c.do_task.ensures,
 )
 

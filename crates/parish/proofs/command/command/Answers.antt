@@ -51,19 +51,22 @@ quiet (asked.Show text) words of has no_apply no_import = refl
 
 pub returns-in-Ok-clause-status : goal.returns-in-Ok-clause-status
 returns-in-Ok-clause-status g c =
-    let one = does_at_most_1 g.R.Read g.R.Device g.W.Write g.W.Device g.F.Write (image_at g.S.Start) _ _ _ _ _
+    let one = does_at_most_1 g.R.Read g.R.Device g.W.Write g.W.Device g.F.Write g.F.Device
+    (image_at g.S.Start) _ _ _ _ _
     c.in-Ok.asked c.work.ensures in
     omega (arith, one)
 
 pub returns-in-Ok-clause-words : goal.returns-in-Ok-clause-words
 returns-in-Ok-clause-words g c = λ two.
-    let one = does_at_most_1 g.R.Read g.R.Device g.W.Write g.W.Device g.F.Write (image_at g.S.Start) _ _ _ _ _
+    let one = does_at_most_1 g.R.Read g.R.Device g.W.Write g.W.Device g.F.Write g.F.Device
+    (image_at g.S.Start) _ _ _ _ _
     c.in-Ok.asked c.work.ensures in
     absurd (omega (arith, one, two))
 
 pub returns-in-Ok-clause-done : goal.returns-in-Ok-clause-done
 returns-in-Ok-clause-done g c = λ zero no_apply no_import.
-    does_quietly g.R.Read g.R.Device g.W.Write g.W.Device g.F.Write (image_at g.S.Start) _ _ _ _ _ c.in-Ok.asked
+    does_quietly g.R.Read g.R.Device g.W.Write g.W.Device g.F.Write g.F.Device
+    (image_at g.S.Start) _ _ _ _ _ c.in-Ok.asked
     c.work.ensures
     (quiet c.in-Ok.asked (map string_bytes c.args.words.now) c.in-Ok.ensures.asked.0 c.in-Ok.ensures.asked.1
     no_apply no_import) zero
@@ -74,7 +77,7 @@ returns-in-Ok-clause-does g c = λ taken.
 
 pub returns-in-Ok-clause-others : goal.returns-in-Ok-clause-others
 returns-in-Ok-clause-others g c = λ none.
-    untaken g.R.Read g.R.Device g.W.Write g.W.Device g.F.Write (image_at g.S.Start) _ _ _ _ _
+    untaken g.R.Read g.R.Device g.W.Write g.W.Device g.F.Write g.F.Device (image_at g.S.Start) _ _ _ _ _
     (map string_bytes c.args.words.now) none c.in-Ok.asked c.in-Ok.ensures.asked.0 c.work.ensures
     c.in-Ok.ensures.shown
 

@@ -10,7 +10,8 @@ pub returns-in-ExportPublic : goal.returns-in-ExportPublic
 returns-in-ExportPublic g c =
     let fits : SFits w32 c.in-ExportPublic.today = search rules in
     rw c.in-ExportPublic.is (
-    on_day g.R.Read g.R.Device g.W.Write g.W.Device g.F.Write (image_at g.S.Start) _ _ _ _ _ task.ExportPublic _
+    on_day g.R.Read g.R.Device g.W.Write g.W.Device g.F.Write g.F.Device
+    (image_at g.S.Start) _ _ _ _ _ task.ExportPublic _
     c.in-ExportPublic.today (to_z-of_z w32 c.in-ExportPublic.today fits) c.do_task-in-ExportPublic.ensures
     )
 
@@ -20,7 +21,7 @@ returns-in-Sheet g c =
     rw c.in-Sheet.is (
       c.sheet_of-sheet.result,
       c.sheet_of-sheet.ensures,
-      on_day g.R.Read g.R.Device g.W.Write g.W.Device g.F.Write (image_at g.S.Start) _ _ _ _ _
+      on_day g.R.Read g.R.Device g.W.Write g.W.Device g.F.Write g.F.Device (image_at g.S.Start) _ _ _ _ _
           (λ (d : ℤ). task.Sheet c.sheet_of-sheet.result d) _ c.in-Sheet.today (to_z-of_z w32 c.in-Sheet.today fits)
           c.do_task-in-Sheet.ensures,
     )
@@ -30,7 +31,8 @@ returns-in-Serve g c =
     let fits : SFits w32 c.in-Serve.today = search rules in
     rw c.in-Serve.is (
       c.open_room.ensures.0,
-      library_on g.R.Read g.R.Device g.W.Write g.W.Device g.F.Write (image_at g.S.Start) _ _ _ _ _ _ c.in-Serve.today
+      library_on g.R.Read g.R.Device g.W.Write g.W.Device g.F.Write g.F.Device
+          (image_at g.S.Start) _ _ _ _ _ _ c.in-Serve.today
           (to_z-of_z w32 c.in-Serve.today fits) c.open_room.ensures.1,
       c.open_room.ensures.2,
     )
@@ -40,7 +42,7 @@ returns-in-Days g c =
     let fits_first : SFits w32 c.in-Days.first = search rules in
     let fits_last : SFits w32 c.in-Days.last = search rules in
     rw c.in-Days.is (
-    between g.R.Read g.R.Device g.W.Write g.W.Device g.F.Write (image_at g.S.Start) _ _ _ _ _ c.in-Days.words
+    between g.R.Read g.R.Device g.W.Write g.W.Device g.F.Write g.F.Device (image_at g.S.Start) _ _ _ _ _ c.in-Days.words
     _ c.in-Days.first _ c.in-Days.last (to_z-of_z w32 c.in-Days.first fits_first)
     (to_z-of_z w32 c.in-Days.last fits_last) c.do_task-in-Days.ensures
     )

@@ -6,7 +6,8 @@ use Rattle.parish.proofs.laws.what_is_asked_for_loses_nothing.Goals as goal
 pub returns : goal.returns
 returns g c = record {
   asked = λ image after a status x y left room bytes seen unseen ended did s as_seen finds.
-      is_run g.R.Read g.R.Device g.W.Write g.W.Device g.F.Write image after status x y left room bytes seen unseen
+      is_run g.R.Read g.R.Device g.W.Write g.W.Device g.F.Write g.F.Device image after status x y left room bytes seen
+      unseen
       ended as_seen
       (λ t shown ends. c.a_task_on_a_file_loses_nothing.ensures.performed image after t x y status shown left bytes
       seen unseen ended ends s as_seen finds)

@@ -6,6 +6,7 @@ use Rattle.store_tables.specs.Calls.{LeavesOnly, Settled}
 use Rattle.store.specs.Importing.{HasBegun, HasAnswered}
 use Rattle.store.proofs.Committed.{by_kept, no_stop, want_refused, writes_nothing}
 use Rattle.store.proofs.Imports.{begin_leaves, has_answered, has_begun, none_then, only_leaves, some_then}
+use Rattle.store.proofs.Told.{whole_of}
 use Rattle.store.proofs.Viewed.{seen_of}
 use Rattle.store.proofs.beginning.try_begin.Goals as goal
 
@@ -76,6 +77,10 @@ returns-in-Ok-open_import-clause-repeated g c clean society content rows was kee
 pub returns-in-Ok-open_import-clause-quiet : goal.returns-in-Ok-open_import-clause-quiet
 returns-in-Ok-open_import-clause-quiet g c clean society content rows was keeps =
     (c.in-Ok.ensures.same (c.in-Ok-open_import.ensures.clean clean) rows content was (seen_of keeps)).1
+
+pub returns-in-Ok-open_import-clause-whole : goal.returns-in-Ok-open_import-clause-whole
+returns-in-Ok-open_import-clause-whole g c =
+    whole_of c.in-Ok.changes c.in-Ok-open_import.import c.in-Ok-open_import.ensures.whole
 
 -- its batch was not opened, or nobody knows whether it was
 pub returns-in-Err-open_import-clause-refused : goal.returns-in-Err-open_import-clause-refused

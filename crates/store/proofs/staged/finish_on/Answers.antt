@@ -2,6 +2,7 @@ use Rattle.std.proofs.Common.{◌≡◌, false, subst, ◌∙◌}
 use Rattle.sqlite.specs.Held.{state}
 use Rattle.archive_state.specs.Applied.{applied}
 use Rattle.store_tables.specs.Calls.{Settled}
+use Rattle.list_laws.proofs.Outcomes.{any_ok}
 use Rattle.store_tables.proofs.Calls.{on_ok}
 use Rattle.store.specs.Histories.{is_storage}
 use Rattle.store.proofs.Steps.{acknowledged_whole, done_or_not_yet, none_left_of, not_done, only_storage}
@@ -18,6 +19,9 @@ returns-in-Ok-clause-done g c clean =
     staged still.1 c.in-Ok.ensures.left
     (published society content r still.0 (none_left_of import staged c.in-Ok.ensures.left)))
     (c.publish_on.ensures.published clean)
+
+pub returns-in-Ok-clause-told_all : goal.returns-in-Ok-clause-told_all
+returns-in-Ok-clause-told_all g c = any_ok c.publish_on.result c.in-Ok.ensures.told_all
 
 pub returns-in-Ok-clause-undone : goal.returns-in-Ok-clause-undone
 returns-in-Ok-clause-undone g c clean = only_storage _ c.publish_on.result c.publish_on.ensures.refused

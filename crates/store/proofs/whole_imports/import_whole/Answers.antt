@@ -1,9 +1,10 @@
-use Rattle.std.proofs.Common.{None, inl}
+use Rattle.std.proofs.Common.{None, inl, refl}
 use Rattle.sqlite.specs.Held.{state}
 use Rattle.archive_core.specs.Machine.{import_of}
 use Rattle.store_tables.proofs.Queries.{only_committed}
 use Rattle.store.proofs.Committed.{ok_performs, refusal_performs, want_refused}
 use Rattle.store.proofs.Steps.{all_done, all_undone, done_or_not_all, none_anew, not_done}
+use Rattle.store.proofs.Told.{told_done, told_of}
 use Rattle.store.proofs.whole_imports.import_whole.Goals as goal
 
 -- ---- all steps are done, or the answer was kept
@@ -43,7 +44,28 @@ pub returns-in-Ok-finish_begun-clause-quiet : goal.returns-in-Ok-finish_begun-cl
 returns-in-Ok-finish_begun-clause-quiet g c clean society content rows was keeps =
     c.in-Ok.ensures.quiet (c.in-Ok-finish_begun.ensures.clean clean) society content rows was keeps
 
+pub returns-in-Ok-finish_begun-clause-told : goal.returns-in-Ok-finish_begun-clause-told
+returns-in-Ok-finish_begun-clause-told g c =
+    let finished = c.in-Ok-finish_begun.ensures in
+    told_of g.P.Progress.Tells c.in-Ok.begun c.args.progress.now c.finish_begun.new.progress c.in-Ok.ensures.whole
+    finished.silent finished.told
+
+pub returns-in-Ok-finish_begun-clause-told_done : goal.returns-in-Ok-finish_begun-clause-told_done
+returns-in-Ok-finish_begun-clause-told_done g c clean =
+    let finished = c.in-Ok-finish_begun.ensures in
+    let before = finished.clean clean in
+    told_done g.P.Progress.Tells (state g.S.Store c.args.archive.now.conn)
+    (state g.S.Store c.begin_given.new.archive.conn) (import_of c.args.token.now c.args.forest) c.in-Ok.answer
+    c.in-Ok.begun c.args.progress.now c.finish_begun.new.progress c.in-Ok.ensures.whole (c.in-Ok.ensures.begun before)
+    (c.in-Ok.ensures.answered before) finished.silent finished.told_all
+
 -- ---- a step is refused
+pub returns-in-Err-finish_begun-clause-told : goal.returns-in-Err-finish_begun-clause-told
+returns-in-Err-finish_begun-clause-told g c =
+    let finished = c.in-Err-finish_begun.ensures in
+    told_of g.P.Progress.Tells c.in-Ok.begun c.args.progress.now c.finish_begun.new.progress c.in-Ok.ensures.whole
+    finished.silent finished.told
+
 pub returns-in-Err-finish_begun-clause-performs : goal.returns-in-Err-finish_begun-clause-performs
 returns-in-Err-finish_begun-clause-performs g c clean =
     let finished = c.in-Err-finish_begun.ensures in
@@ -83,6 +105,9 @@ returns-in-Err-finish_begun-clause-repeated g c clean =
     (c.in-Ok.ensures.repeated before) finished.none
 
 -- ---- it is refused before it is begun
+pub returns-in-Err-clause-told : goal.returns-in-Err-clause-told
+returns-in-Err-clause-told g c = inl refl
+
 pub returns-in-Err-clause-performs : goal.returns-in-Err-clause-performs
 returns-in-Err-clause-performs g c clean =
     let begun = c.in-Err.ensures in

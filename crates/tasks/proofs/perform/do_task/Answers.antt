@@ -1,6 +1,7 @@
 use Rattle.std.proofs.Common.{SFits, refl, rules, w32}
 use Rattle.std.proofs.lemmas.Int.{to_z-of_z}
 use Rattle.sqlite.specs.Held.{state}
+use Rattle.tasks.proofs.Aloud.{says_far}
 use Rattle.tasks.proofs.Blamed.{blamed_by}
 use Rattle.tasks.proofs.Days.{lists_on, prints_on, publishes_on, shelves_on}
 use Rattle.tasks.proofs.perform.do_task.Goals as goal
@@ -29,7 +30,24 @@ returns-in-Entries g c =
 pub returns-in-Import : goal.returns-in-Import
 returns-in-Import g c =
     let did = c.import_file.ensures in
-    rw c.in-Import.is (record { imported = did.imported; refused = did.refused }, did.silent, refl)
+    rw c.in-Import.is (
+      record { imported = did.imported; refused = did.refused },
+      says_far g.S.Store g.R.Read g.R.Device g.W.Write g.W.Device g.F.Write g.F.Device
+          (record {
+            archive = c.args.archive.now;
+            input = c.args.input.now;
+            output = c.args.output.now;
+            faults = c.args.faults.now;
+          })
+          (record {
+            archive = c.import_file.new.archive;
+            input = c.import_file.new.input;
+            output = c.import_file.new.output;
+            faults = c.import_file.new.faults;
+          })
+          c.in-Import.progress c.in-Import.token c.import_file.result did.silent did.told did.told_done,
+      refl,
+    )
 
 pub returns-in-Export : goal.returns-in-Export
 returns-in-Export g c =
@@ -59,7 +77,7 @@ returns-in-ExportPublic g c =
       (
         c.write_public.result,
         c.plain-in-ExportPublic.ensures,
-        publishes_on _ _ _ _ _ _ _ _ _ c.in-ExportPublic.today c.write_public.result
+        publishes_on _ _ _ _ _ _ _ _ _ _ c.in-ExportPublic.today c.write_public.result
             (to_z-of_z w32 c.in-ExportPublic.today fits) did.written did.begun did.sound did.unread did.writer
             (record { stays = did.reads; lost = did.lost }),
       ),
@@ -76,7 +94,7 @@ returns-in-Sheet g c =
       (
         c.write_sheet.result,
         c.plain-in-Sheet.ensures,
-        prints_on _ _ _ _ _ _ _ _ _ _ c.in-Sheet.today c.write_sheet.result
+        prints_on _ _ _ _ _ _ _ _ _ _ _ c.in-Sheet.today c.write_sheet.result
             (to_z-of_z w32 c.in-Sheet.today fits) did.written did.refused did.sound did.unread did.writer
             (record { stays = did.reads; lost = did.lost }),
       ),
@@ -123,7 +141,7 @@ returns-in-Days g c =
       (
         c.write_days.result,
         c.plain-in-Days.ensures,
-        lists_on _ _ _ _ _ _ _ _ c.in-Days.words _ c.in-Days.first _ c.in-Days.last c.write_days.result
+        lists_on _ _ _ _ _ _ _ _ _ c.in-Days.words _ c.in-Days.first _ c.in-Days.last c.write_days.result
             (to_z-of_z w32 c.in-Days.first fits_first) (to_z-of_z w32 c.in-Days.last fits_last) did.written did.cut
             did.unread did.writer (record { stays = did.reads; lost = did.lost }),
       ),
