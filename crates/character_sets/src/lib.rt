@@ -1,6 +1,6 @@
 //! The characters of files that are not in UTF-8: ANSEL, UTF-16, and the code pages of Windows, DOS and the Macintosh.
 //!
-//! It uses `unicode_normalization` of the kit for a letter and its marks. It knows no lines; `file_conversion` does.
+//! It uses `unicode_normalization` of the kit for a letter and its marks. It knows no lines; `unit_lines` does.
 //!
 //! ```text
 //! let units = units_of(alloc, CharacterSet::Ansel, bytes)?;

@@ -1,2 +1,1 @@
-pub mod FirstLines
 pub mod Written

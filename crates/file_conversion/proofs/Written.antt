@@ -6,8 +6,8 @@ use Rattle.character_sets.specs.declared.set.CharacterSet.{CharacterSet}
 use Rattle.character_sets.specs.Sets.{characters}
 use Rattle.file_conversion.specs.declared.fault.ConversionError.{ConversionError}
 use Rattle.file_conversion.specs.declared.fault.ConversionError.TheVariants.{OutOfMemory, ReadFailed, WriteFailed, TooLarge, UnknownSet}
-use Rattle.file_conversion.specs.Lines.{Line}
-use Rattle.file_conversion.specs.Moves.{moved}
+use Rattle.unit_lines.specs.Lines.{Line}
+use Rattle.unit_lines.specs.Moves.{moved}
 use Rattle.file_conversion.specs.Conversion.{line_characters, text_of_lines}
 use Rattle.file_conversion.specs.Streams.{NoText}
 

@@ -7,8 +7,8 @@ use Rattle.character_sets.specs.CodePages.{is_alike}
 use Rattle.character_sets.specs.Sets.{characters, units_of}
 use Rattle.character_sets.specs.Utf8.{has_no_stray}
 use Rattle.file_conversion.specs.declared.charsets.NamedSet.{NamedSet}
-use Rattle.file_conversion.specs.Lines.{Line, is_blank, lines}
-use Rattle.file_conversion.specs.Moves.{moved}
+use Rattle.unit_lines.specs.Lines.{Line, is_blank, lines}
+use Rattle.unit_lines.specs.Moves.{moved}
 use Rattle.file_conversion.specs.Charsets.{named_by, said}
 
 -- ---- the units of a file

@@ -18,7 +18,7 @@ ghost use Rattle.std.specs.Prelude.{
 ghost use Rattle.std.specs.Io.KnownBytes.{Appends, Keeps};
 ghost use Rattle.devices.specs.Devices.{AppendsBeginning, Rose};
 ghost use Rattle.character_sets.specs.Sets.{characters};
-ghost use Rattle.file_conversion.specs.Lines.{lines};
+ghost use Rattle.unit_lines.specs.Lines.{lines};
 ghost use Rattle.file_conversion.specs.Conversion.{text_of_file as text_of_file_of, text_of_lines, text_of_units as text_of_units_of};
 ghost use Rattle.file_conversion.specs.Streams.{
   Begun,
@@ -33,13 +33,13 @@ ghost use Rattle.file_conversion.specs.Streams.{
 
 use crate::deciding::set_of_file;
 use crate::fault::ConversionError;
-use crate::moves::{Moved, moved_line};
 use crate::naming::{named_by, said};
 use crate::units::file_units;
 use character_sets::{CharacterSet, push_text};
 use devices::{Device, TransferError, read_up_to, write_flushed};
 use std::alloc::{AllocError, Global};
 use std::io::{Read, Write};
+use unit_lines::{Moved, moved_line};
 
 /// The most bytes that are read.
 const MAX_READ: usize = 134_217_728;

@@ -1,5 +1,5 @@
 use Rattle.std.proofs.Common.{◌≡◌, ◌+◌, ◌≤◌, length}
-use Rattle.file_conversion.specs.Lines.{lines}
+use Rattle.unit_lines.specs.Lines.{lines}
 use Rattle.file_conversion.specs.Conversion.{first_unlike}
 use Rattle.file_conversion.proofs.deciding.first_unlike.Given as goal
 

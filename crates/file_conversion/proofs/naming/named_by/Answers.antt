@@ -1,7 +1,7 @@
 use Rattle.std.proofs.Common.{◌∙◌, ◌<◌, ap, arith, length, rules, sym}
-use Rattle.file_conversion.specs.Lines.{lines}
+use Rattle.unit_lines.specs.Lines.{lines}
 use Rattle.file_conversion.specs.Charsets.{named_in}
-use Rattle.file_conversion.proofs.FirstLines.{none}
+use Rattle.unit_lines.proofs.FirstLines.{none}
 use Rattle.file_conversion.proofs.naming.named_by.Goals as goal
 
 pub lines-preserved : goal.lines-preserved

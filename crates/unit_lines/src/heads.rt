@@ -3,7 +3,7 @@
 ghost use Rattle.std.specs.Prelude.{◌≡◌, ◌≤◌, ◌+◌, ◌-◌, ◌*◌, ◌<◌, IfSome, Some, None, length, option_map};
 ghost use Rattle.std.specs.List.{prefix_len, list_all};
 ghost use Rattle.std.specs.Str.{bytes_eq};
-ghost use Rattle.file_conversion.specs.Heads.{
+ghost use Rattle.unit_lines.specs.Heads.{
   after as after_of,
   closed as closed_of,
   head_of,
@@ -19,7 +19,7 @@ ghost use Rattle.file_conversion.specs.Heads.{
 
 /// The tags that matter here. A few programs write HEADER for HEAD and CHARACTER for CHAR.
 #[derive(Clone, Copy, Debug, PartialEq, Eq)]
-pub(crate) enum KnownTag {
+pub enum KnownTag {
     Head,
     Char,
     Conc,
@@ -44,21 +44,21 @@ pub(crate) enum Class {
 
 /// What a line begins with.
 #[derive(Clone, Copy, Debug, PartialEq, Eq)]
-pub(crate) struct LineHead {
+pub struct LineHead {
     /// From 0 to 99.
-    pub(crate) level: u16,
-    pub(crate) tag: KnownTag,
+    pub level: u16,
+    pub tag: KnownTag,
     /// How many units stand before the tag.
-    pub(crate) tag_at: usize,
+    pub tag_at: usize,
     /// How many units stand before the value.
-    pub(crate) value_at: usize,
+    pub value_at: usize,
     /// Whether a space parts the tag and the value.
-    pub(crate) is_parted: bool,
+    pub is_parted: bool,
 }
 
 impl Class {
     ghost use Rattle.std.specs.List.{prefix_len};
-    ghost use Rattle.file_conversion.specs.Heads.{in_class};
+    ghost use Rattle.unit_lines.specs.Heads.{in_class};
 
     fn has(self, unit: u16) -> bool
         ensures { result ≡ in_class self unit }
@@ -100,6 +100,13 @@ impl Class {
     }
 }
 
+/// Units without the spaces and tabs at the front.
+pub fn past_white(units: &[u16]) -> &[u16]
+    ensures { result.now ≡ after_of Class.White units.now }
+{
+    Class::White.after(units)
+}
+
 fn is_digit(unit: u16) -> bool
     ensures { result ≡ is_digit_of unit }
 {
@@ -108,7 +115,7 @@ fn is_digit(unit: u16) -> bool
 
 /// What a line begins with. `None`: it has no level, no tag, or another character after its tag.
 #[tactic(auto, unfolding(crate::specs::Heads::head_of))]
-pub(crate) fn line_head(line: &[u16]) -> Option<LineHead>
+pub fn line_head(line: &[u16]) -> Option<LineHead>
     ensures is { result ≡ head_of line.now }
     ensures within { IfSome result (λ h. (h.tag_at ≤ length line.now) × (h.value_at ≤ length line.now)) }
 {

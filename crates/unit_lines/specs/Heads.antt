@@ -3,12 +3,12 @@
 use Rattle.std.specs.Prelude.{ℕ, ◌+◌, ◌-◌, ◌*◌, ◌==◌, ◌&&◌, ◌||◌, Bool, true, false, not, List, [], ◌∷◌, Option, Some, None, drop, length, nat_le, take, if◌then◌else◌}
 use Rattle.std.specs.List.{list_all, prefix_len}
 use Rattle.std.specs.Str.{bytes_eq}
-use Rattle.file_conversion.specs.declared.heads.KnownTag.{KnownTag}
-use Rattle.file_conversion.specs.declared.heads.KnownTag.TheVariants.{Head, Char, Conc, Cont, Other}
-use Rattle.file_conversion.specs.declared.heads.LineHead.{LineHead}
-use Rattle.file_conversion.specs.declared.heads.Class.{Class}
-use Rattle.file_conversion.specs.declared.heads.Class.TheVariants.{White, Space, Tab, Word, NotAt}
-use Rattle.file_conversion.specs.Lines.{is_white}
+use Rattle.unit_lines.specs.declared.heads.KnownTag.{KnownTag}
+use Rattle.unit_lines.specs.declared.heads.KnownTag.TheVariants.{Head, Char, Conc, Cont, Other}
+use Rattle.unit_lines.specs.declared.heads.LineHead.{LineHead}
+use Rattle.unit_lines.specs.declared.heads.Class.{Class}
+use Rattle.unit_lines.specs.declared.heads.Class.TheVariants.{White, Space, Tab, Word, NotAt}
+use Rattle.unit_lines.specs.Lines.{is_white}
 
 abbrev pub is_digit : ℕ → Bool
 is_digit unit = nat_le 48 unit && nat_le unit 57

@@ -2,7 +2,7 @@
 
 ghost use Rattle.std.specs.Prelude.{◌≡◌, ◌++◌, ◌∷◌, ◌<◌, ◌≤◌, drop, length, take};
 ghost use Rattle.std.specs.List.{prefix_len};
-ghost use Rattle.file_conversion.specs.Lines.{
+ghost use Rattle.unit_lines.specs.Lines.{
   is_blank as is_blank_of,
   is_body,
   is_ending as is_ending_of,
@@ -14,19 +14,19 @@ use crate::heads::Class;
 
 /// The first line of units.
 #[derive(Clone, Copy)]
-pub(crate) struct Cut<'a> {
+pub struct Cut<'a> {
     /// Its units, without the one that ends it.
-    pub(crate) body: &'a [u16],
+    pub body: &'a [u16],
     /// The unit that ends it, none at the end of the file.
-    pub(crate) ending: &'a [u16],
+    pub ending: &'a [u16],
     /// All units after its own.
-    pub(crate) more: &'a [u16],
+    pub more: &'a [u16],
     /// The units after the one that ends it.
-    pub(crate) rest: &'a [u16],
+    pub rest: &'a [u16],
 }
 
 /// The first line of a file, or of what is left of one.
-pub(crate) fn first_line(units: &[u16]) -> Cut<'_>
+pub fn first_line(units: &[u16]) -> Cut<'_>
     requires { 0 < length units.now }
     ensures lines { lines units.now ≡ record { body = result.body.now; ending = result.ending.now }
         ∷ lines result.rest.now }
@@ -94,7 +94,7 @@ fn is_ending(unit: u16) -> bool
 }
 
 /// Whether a line has only spaces and tabs, and is no line of GEDCOM.
-pub(crate) fn is_blank(body: &[u16]) -> bool
+pub fn is_blank(body: &[u16]) -> bool
     ensures { result ≡ is_blank_of body.now }
 {
     Class::White.has_all(body)

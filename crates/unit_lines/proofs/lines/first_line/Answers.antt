@@ -1,5 +1,5 @@
-use Rattle.file_conversion.proofs.FirstLines.{is_first, is_more}
-use Rattle.file_conversion.proofs.lines.first_line.Goals as goal
+use Rattle.unit_lines.proofs.FirstLines.{is_first, is_more}
+use Rattle.unit_lines.proofs.lines.first_line.Goals as goal
 
 pub returns-clause-lines : goal.returns-clause-lines
 returns-clause-lines c = is_first c.args.units.now _ _ _ _ c.body_len-count.result c.requires c.body_len-count.ensures.count

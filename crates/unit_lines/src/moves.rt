@@ -2,8 +2,8 @@
 
 ghost use Rattle.std.specs.Prelude.{◌≡◌, ◌<◌, ◌≤◌, ◌++◌, ◌∷◌, IfOk, IfSome, length};
 ghost use Rattle.character_sets.specs.Cuts.{cut_units};
-ghost use Rattle.file_conversion.specs.Lines.{lines};
-ghost use Rattle.file_conversion.specs.Moves.{
+ghost use Rattle.unit_lines.specs.Lines.{lines};
+ghost use Rattle.unit_lines.specs.Moves.{
   cut_at as cut_of,
   cut_between as cut_between_of,
   goes_on as goes_on_of,
@@ -22,7 +22,7 @@ use character_sets::{CharacterSet, cut_units};
 use std::alloc::{AllocError, Global};
 
 /// The next line that is not blank, of what is left of a file; an empty one at its end.
-pub(crate) fn next_body(units: &[u16]) -> &[u16]
+fn next_body(units: &[u16]) -> &[u16]
     ensures { result.now ≡ next_of (lines units.now) }
 {
     let mut rest = units;
@@ -123,7 +123,7 @@ fn cut_of_value(
 }
 
 /// A line with the units that belong to the beginning of its value.
-pub(crate) fn joined(alloc: Global, carry: &[u16], body: &[u16]) -> Result<Vec<u16>, AllocError>
+fn joined(alloc: Global, carry: &[u16], body: &[u16]) -> Result<Vec<u16>, AllocError>
     ensures { IfOk result (λ whole. whole.items ≡ joined_of carry.now body.now) }
 {
     let mut whole = Vec::new(alloc);
@@ -144,15 +144,15 @@ pub(crate) fn joined(alloc: Global, carry: &[u16], body: &[u16]) -> Result<Vec<u
 
 /// The first line of units as it is written, the units that belong to the next one's value, and those after it.
 #[derive(Drop)]
-pub(crate) struct Moved<'a> {
-    pub(crate) body: Vec<u16>,
-    pub(crate) ending: &'a [u16],
-    pub(crate) carry: Vec<u16>,
-    pub(crate) rest: &'a [u16],
+pub struct Moved<'a> {
+    pub body: Vec<u16>,
+    pub ending: &'a [u16],
+    pub carry: Vec<u16>,
+    pub rest: &'a [u16],
 }
 
 /// The first line of units, whose value has `carry` in front.
-pub(crate) fn moved_line(
+pub fn moved_line(
     alloc: Global,
     set: CharacterSet,
     carry: Vec<u16>,

@@ -3,11 +3,11 @@
 use Rattle.std.specs.Prelude.{ℕ, ◌+◌, ◌-◌, ◌==◌, ◌&&◌, Bool, true, false, List, [], ◌∷◌, ◌++◌, Option, Some, None, drop, length, take, if◌then◌else◌}
 use Rattle.character_sets.specs.declared.set.CharacterSet.{CharacterSet}
 use Rattle.character_sets.specs.Cuts.{cut_units}
-use Rattle.file_conversion.specs.declared.heads.KnownTag.{KnownTag}
-use Rattle.file_conversion.specs.declared.heads.KnownTag.TheVariants.{Conc, Cont}
-use Rattle.file_conversion.specs.declared.heads.LineHead.{LineHead}
-use Rattle.file_conversion.specs.Lines.{Line, is_blank}
-use Rattle.file_conversion.specs.Heads.{head_of}
+use Rattle.unit_lines.specs.declared.heads.KnownTag.{KnownTag}
+use Rattle.unit_lines.specs.declared.heads.KnownTag.TheVariants.{Conc, Cont}
+use Rattle.unit_lines.specs.declared.heads.LineHead.{LineHead}
+use Rattle.unit_lines.specs.Lines.{Line, is_blank}
+use Rattle.unit_lines.specs.Heads.{head_of}
 
 abbrev pub is_conc : KnownTag → Bool
 is_conc Conc = true

@@ -1,7 +1,7 @@
 use Rattle.std.proofs.Common.{◌∙◌, ◌<◌, ap, arith, length, rules, sym}
-use Rattle.file_conversion.specs.Moves.{next_body}
-use Rattle.file_conversion.proofs.FirstLines.{empty, none}
-use Rattle.file_conversion.proofs.moves.next_body.Goals as goal
+use Rattle.unit_lines.specs.Moves.{next_body}
+use Rattle.unit_lines.proofs.FirstLines.{empty, none}
+use Rattle.unit_lines.proofs.moves.next_body.Goals as goal
 
 pub returns : goal.returns
 returns c = let h : length c.lines.rest.now < 1 = first_of (search rules, grind arith) in

@@ -2,7 +2,7 @@
 use Rattle.std.proofs.Common.{◌≡◌, ◌∙◌, ◌+◌, ◌<◌, ◌++◌, ◌∷◌, [], Bool, List, ap, arith, cond, drop, false, length, length-drop, not, refl, suc, sym, take, true, zero, ℕ}
 use Rattle.std.proofs.lemmas.List.{take-append-drop}
 use Rattle.std.specs.List.{prefix_len}
-use Rattle.file_conversion.specs.Lines.{Line, is_body, is_ending, lines, onto_first, units_of}
+use Rattle.unit_lines.specs.Lines.{Line, is_body, is_ending, lines, onto_first, units_of}
 
 pub none : (us : List ℕ) → length us < 1 → lines us ≡ []
 unfolding lines

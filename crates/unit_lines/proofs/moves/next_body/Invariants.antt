@@ -1,7 +1,7 @@
 use Rattle.std.proofs.Common.{◌≡◌, length}
-use Rattle.file_conversion.specs.Lines.{lines}
-use Rattle.file_conversion.specs.Moves.{next_body}
-use Rattle.file_conversion.proofs.moves.next_body.Given as goal
+use Rattle.unit_lines.specs.Lines.{lines}
+use Rattle.unit_lines.specs.Moves.{next_body}
+use Rattle.unit_lines.proofs.moves.next_body.Given as goal
 
 abbrev pub invariant-lines : goal.invariant-lines
 invariant-lines l = next_body (lines l.rest) ≡ next_body (lines l.fn.units)
