@@ -1,14 +1,50 @@
 -- ASCII stays as it is.
-use Rattle.std.proofs.Common.{◌≡◌, ◌∙◌, ◌<◌, ◌-◌, ◌∷◌, [], Bool, List, None, Some, ap, arith, false, if◌then◌else◌, map, nat_lt, refl, slice_index_or, true, ℕ}
+use Rattle.std.proofs.Common.{
+  ◌≡◌,
+  ◌∙◌,
+  ◌<◌,
+  ◌-◌,
+  ◌∷◌,
+  [],
+  Bool,
+  List,
+  None,
+  Some,
+  ap,
+  arith,
+  false,
+  if◌then◌else◌,
+  map,
+  nat_lt,
+  refl,
+  slice_index_or,
+  true,
+  ℕ,
+}
 use Rattle.std.specs.List.{AllByRecursion}
 use Rattle.std.specs.Char.Utf16.{lone_unit_char, utf16_lossy_chars}
 use Rattle.std.specs.Option.{unwrap_or}
 use Rattle.std.proofs.lemmas.Bool.Decides.{nat_tests}
 use Rattle.std.proofs.lemmas.Str.{utf16_chars-nil, utf16_chars_lone}
 use Rattle.character_sets.specs.declared.set.CharacterSet.{CharacterSet}
-use Rattle.character_sets.specs.declared.set.CharacterSet.TheVariants.{Utf8, Utf16Le, Utf16Be, Windows1252, CodePage437, CodePage850, Macintosh, Ansel}
+use Rattle.character_sets.specs.declared.set.CharacterSet.TheVariants.{
+  Utf8,
+  Utf16Le,
+  Utf16Be,
+  Windows1252,
+  CodePage437,
+  CodePage850,
+  Macintosh,
+  Ansel,
+}
 use Rattle.character_sets.specs.declared.utf8.Beginning.TheVariants.{Whole}
-use Rattle.character_sets.specs.declared.tables.TheConstants.{ANSEL, CODE_PAGE_437, CODE_PAGE_850, MACINTOSH, WINDOWS_1252}
+use Rattle.character_sets.specs.declared.tables.TheConstants.{
+  ANSEL,
+  CODE_PAGE_437,
+  CODE_PAGE_850,
+  MACINTOSH,
+  WINDOWS_1252,
+}
 use Rattle.character_sets.specs.CodePages.{character}
 use Rattle.character_sets.specs.Ansel.{ansel_character, ansel_characters, mark, spelt as spelt_mark}
 use Rattle.character_sets.specs.Utf8.{front, spelt, utf8_characters}

@@ -1,5 +1,33 @@
 -- The steps by which the code goes through units.
-use Rattle.std.proofs.Common.{◌≡◌, ◌∙◌, ◌-◌, ◌<◌, ◌≤◌, ◌∷◌, ◌++◌, [], List, Some, None, ap, append_assoc, arith, drop, encode_utf8_all, false, get_or, length, length-drop, refl, subst, suc, zero, sym, take, ℕ}
+use Rattle.std.proofs.Common.{
+  ◌≡◌,
+  ◌∙◌,
+  ◌-◌,
+  ◌<◌,
+  ◌≤◌,
+  ◌∷◌,
+  ◌++◌,
+  [],
+  List,
+  Some,
+  None,
+  ap,
+  append_assoc,
+  arith,
+  drop,
+  encode_utf8_all,
+  false,
+  get_or,
+  length,
+  length-drop,
+  refl,
+  subst,
+  suc,
+  zero,
+  sym,
+  take,
+  ℕ,
+}
 use Rattle.std.proofs.lemmas.List.{take_rest}
 use Rattle.std.proofs.lemmas.Str.{encodes-append}
 use Rattle.character_sets.specs.declared.utf8.Beginning.{Beginning}

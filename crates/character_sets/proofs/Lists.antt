@@ -1,5 +1,26 @@
 -- Lists that the code takes apart.
-use Rattle.std.proofs.Common.{◌≡◌, ◌∙◌, ◌+◌, ◌*◌, ◌<◌, ◌≤◌, ◌==◌, ◌∷◌, [], Bool, List, ap, arith, drop, get_or, if◌then◌else◌, length, nat_eq, refl, ℕ}
+use Rattle.std.proofs.Common.{
+  ◌≡◌,
+  ◌∙◌,
+  ◌+◌,
+  ◌*◌,
+  ◌<◌,
+  ◌≤◌,
+  ◌==◌,
+  ◌∷◌,
+  [],
+  Bool,
+  List,
+  ap,
+  arith,
+  drop,
+  get_or,
+  if◌then◌else◌,
+  length,
+  nat_eq,
+  refl,
+  ℕ,
+}
 use Rattle.character_sets.specs.Sets.{wide_units}
 
 pub same_test : (a b x y : ℕ) → a ≡ x → b ≡ y → nat_eq a b ≡ (x == y)

@@ -1,5 +1,39 @@
 -- The bytes of the characters of a code page.
-use Rattle.std.proofs.Common.{◌≡◌, ◌∙◌, ◌+◌, ◌-◌, ◌<◌, ◌≤◌, ◌==◌, ◌&&◌, ◌||◌, ◌∷◌, [], Bool, List, ap, arith, eq-eqb, eqb, eqb-true, false, get_or, if◌then◌else◌, length, nat_le, nat_lt, not, refl, slice_index_or, subst, suc, sym, true, zero, ℕ}
+use Rattle.std.proofs.Common.{
+  ◌≡◌,
+  ◌∙◌,
+  ◌+◌,
+  ◌-◌,
+  ◌<◌,
+  ◌≤◌,
+  ◌==◌,
+  ◌&&◌,
+  ◌||◌,
+  ◌∷◌,
+  [],
+  Bool,
+  List,
+  ap,
+  arith,
+  eq-eqb,
+  eqb,
+  eqb-true,
+  false,
+  get_or,
+  if◌then◌else◌,
+  length,
+  nat_le,
+  nat_lt,
+  not,
+  refl,
+  slice_index_or,
+  subst,
+  suc,
+  sym,
+  true,
+  zero,
+  ℕ,
+}
 use Rattle.std.proofs.lemmas.Bool.Decides.{nat_tests}
 use Rattle.character_sets.specs.CodePages.{character}
 use Rattle.character_sets.specs.Again.{IsReadAgain, byte_of, place_of}

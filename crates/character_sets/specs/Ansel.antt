@@ -1,5 +1,22 @@
 -- ANSEL (ANSI/NISO Z39.47): the marks of a letter stand before it, and here after it.
-use Rattle.std.specs.Prelude.{ℕ, ◌-◌, ◌==◌, ◌++◌, ◌≡◌, List, [], ◌∷◌, encode_utf8_all, map, Option, Some, None, nat_lt, slice_index_or, if◌then◌else◌}
+use Rattle.std.specs.Prelude.{
+  ℕ,
+  ◌-◌,
+  ◌==◌,
+  ◌++◌,
+  ◌≡◌,
+  List,
+  [],
+  ◌∷◌,
+  encode_utf8_all,
+  map,
+  Option,
+  Some,
+  None,
+  nat_lt,
+  slice_index_or,
+  if◌then◌else◌,
+}
 use Rattle.unicode_normalization.specs.Forms.{nfc}
 use Rattle.character_sets.specs.CodePages.{character}
 use Rattle.character_sets.specs.declared.tables.TheConstants.{ANSEL, ANSEL_MARKS}

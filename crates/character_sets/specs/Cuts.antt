@@ -1,9 +1,38 @@
 -- Units at the end of a value that belong to a character which the value after it ends: lines that go on with another
 -- one (CONC) were cut at a number of bytes.
-use Rattle.std.specs.Prelude.{ℕ, ◌+◌, ◌-◌, Bool, true, false, ◌&&◌, List, [], ◌∷◌, ◌++◌, drop, length, is_some, nat_le, nat_lt, slice_index_or, take, if◌then◌else◌}
+use Rattle.std.specs.Prelude.{
+  ℕ,
+  ◌+◌,
+  ◌-◌,
+  Bool,
+  true,
+  false,
+  ◌&&◌,
+  List,
+  [],
+  ◌∷◌,
+  ◌++◌,
+  drop,
+  length,
+  is_some,
+  nat_le,
+  nat_lt,
+  slice_index_or,
+  take,
+  if◌then◌else◌,
+}
 use Rattle.std.specs.Char.Utf16.{is_high_surrogate, is_low_surrogate}
 use Rattle.character_sets.specs.declared.set.CharacterSet.{CharacterSet}
-use Rattle.character_sets.specs.declared.set.CharacterSet.TheVariants.{Utf8, Utf16Le, Utf16Be, Windows1252, CodePage437, CodePage850, Macintosh, Ansel}
+use Rattle.character_sets.specs.declared.set.CharacterSet.TheVariants.{
+  Utf8,
+  Utf16Le,
+  Utf16Be,
+  Windows1252,
+  CodePage437,
+  CodePage850,
+  Macintosh,
+  Ansel,
+}
 use Rattle.character_sets.specs.declared.utf8.Beginning.{Beginning}
 use Rattle.character_sets.specs.declared.utf8.Beginning.TheVariants.{Whole, Partial, Stray}
 use Rattle.character_sets.specs.Ansel.{mark}

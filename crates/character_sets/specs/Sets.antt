@@ -2,7 +2,16 @@
 use Rattle.std.specs.Prelude.{ℕ, ◌+◌, ◌*◌, Bool, true, false, List, [], ◌∷◌, map, if◌then◌else◌}
 use Rattle.std.specs.Char.Utf16.{utf16_lossy_chars}
 use Rattle.character_sets.specs.declared.set.CharacterSet.{CharacterSet}
-use Rattle.character_sets.specs.declared.set.CharacterSet.TheVariants.{Utf8, Utf16Le, Utf16Be, Windows1252, CodePage437, CodePage850, Macintosh, Ansel}
+use Rattle.character_sets.specs.declared.set.CharacterSet.TheVariants.{
+  Utf8,
+  Utf16Le,
+  Utf16Be,
+  Windows1252,
+  CodePage437,
+  CodePage850,
+  Macintosh,
+  Ansel,
+}
 use Rattle.character_sets.specs.declared.tables.TheConstants.{WINDOWS_1252, CODE_PAGE_437, CODE_PAGE_850, MACINTOSH}
 use Rattle.character_sets.specs.CodePages.{character}
 use Rattle.character_sets.specs.Ansel.{ansel_characters}

@@ -1,5 +1,25 @@
 -- UTF-8 (RFC 3629), in which a byte that is no part of a character is one of Windows-1252.
-use Rattle.std.specs.Prelude.{ℕ, ◌+◌, ◌-◌, ◌*◌, Bool, ◌&&◌, true, false, List, [], ◌∷◌, nat_le, nat_lt, suc, zero, length, ◌≤◌, ◌<◌, if◌then◌else◌}
+use Rattle.std.specs.Prelude.{
+  ℕ,
+  ◌+◌,
+  ◌-◌,
+  ◌*◌,
+  Bool,
+  ◌&&◌,
+  true,
+  false,
+  List,
+  [],
+  ◌∷◌,
+  nat_le,
+  nat_lt,
+  suc,
+  zero,
+  length,
+  ◌≤◌,
+  ◌<◌,
+  if◌then◌else◌,
+}
 use lib.Utf8.{scalar}
 use Rattle.character_sets.specs.CodePages.{character}
 use Rattle.character_sets.specs.declared.tables.TheConstants.{WINDOWS_1252}

@@ -1,7 +1,13 @@
 //! ANSEL: marks stand before their letter.
 
 ghost use Rattle.std.specs.Prelude.{◌≡◌, ◌++◌, [], OnOk, encode_utf8_all, string_bytes, map};
-ghost use Rattle.character_sets.specs.Ansel.{Steps, ansel_character as character_of, ansel_characters, letter, mark as mark_of};
+ghost use Rattle.character_sets.specs.Ansel.{
+  Steps,
+  ansel_character as character_of,
+  ansel_characters,
+  letter,
+  mark as mark_of,
+};
 
 use crate::code_pages::{at_place, character};
 use crate::tables::{ANSEL, ANSEL_MARKS};

@@ -80,8 +80,8 @@ pub(crate) static MACINTOSH: [char; 128] = [
     '\u{00AF}', '\u{02D8}', '\u{02D9}', '\u{02DA}', '\u{00B8}', '\u{02DD}', '\u{02DB}', '\u{02C7}',
 ];
 
-/// The characters of ANSEL that are no marks: ANSI/NISO Z39.47-1993, as GEDCOM 5.5.1, appendix C, has it with BE, BF and CD
-/// to CF, and MARC 21 with C7 and C8.
+/// The characters of ANSEL that are no marks: ANSI/NISO Z39.47-1993, as GEDCOM 5.5.1, appendix C, has it with BE, BF
+/// and CD to CF, and MARC 21 with C7 and C8.
 pub(crate) static ANSEL: [char; 128] = [
     '\u{FFFD}', '\u{FFFD}', '\u{FFFD}', '\u{FFFD}', '\u{FFFD}', '\u{FFFD}', '\u{FFFD}', '\u{FFFD}',
     '\u{FFFD}', '\u{FFFD}', '\u{FFFD}', '\u{FFFD}', '\u{FFFD}', '\u{FFFD}', '\u{FFFD}', '\u{FFFD}',

@@ -11,7 +11,8 @@ use crate::tables::{CODE_PAGE_437, CODE_PAGE_850, MACINTOSH, WINDOWS_1252};
 use crate::utf8::push_utf8;
 use std::alloc::{AllocError, Global};
 
-/// Adds the characters of units, in which no character goes beyond the last one. U+FFFD stands for what the set has not.
+/// Adds the characters of units, in which no character goes beyond the last one. U+FFFD stands for what the set
+/// has not.
 pub fn push_text(
     alloc: Global,
     out: &mut String,

@@ -1,6 +1,19 @@
 //! UTF-8, and a byte of Windows-1252 where one is no part of a character.
 
-ghost use Rattle.std.specs.Prelude.{◌≡◌, ◌++◌, ◌≤◌, ◌<◌, ◌∷◌, false, OnOk, MatchOption, length, if◌then◌else◌, encode_utf8_all, string_bytes};
+ghost use Rattle.std.specs.Prelude.{
+  ◌≡◌,
+  ◌++◌,
+  ◌≤◌,
+  ◌<◌,
+  ◌∷◌,
+  false,
+  OnOk,
+  MatchOption,
+  length,
+  if◌then◌else◌,
+  encode_utf8_all,
+  string_bytes,
+};
 ghost use Rattle.character_sets.specs.Utf8.{
   front as front_of,
   is_next as is_next_of,

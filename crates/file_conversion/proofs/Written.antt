@@ -1,11 +1,43 @@
 -- The text of lines, put together one line after the other; and bytes that were read whole.
-use Rattle.std.proofs.Common.{◌≡◌, ◌∙◌, ◌<◌, ◌≤◌, ◌++◌, ◌∷◌, List, Option, Some, None, IfSome, ap, append_assoc, arith, encode_utf8_all, length, length-append, length-take, min, refl, subst, sym, take, take_all, ℕ}
+use Rattle.std.proofs.Common.{
+  ◌≡◌,
+  ◌∙◌,
+  ◌<◌,
+  ◌≤◌,
+  ◌++◌,
+  ◌∷◌,
+  List,
+  Option,
+  Some,
+  None,
+  IfSome,
+  ap,
+  append_assoc,
+  arith,
+  encode_utf8_all,
+  length,
+  length-append,
+  length-take,
+  min,
+  refl,
+  subst,
+  sym,
+  take,
+  take_all,
+  ℕ,
+}
 use Rattle.std.specs.List.{flat_map}
 use Rattle.std.proofs.lemmas.Str.{encodes-append}
 use Rattle.character_sets.specs.declared.set.CharacterSet.{CharacterSet}
 use Rattle.character_sets.specs.Sets.{characters}
 use Rattle.file_conversion.specs.declared.fault.ConversionError.{ConversionError}
-use Rattle.file_conversion.specs.declared.fault.ConversionError.TheVariants.{OutOfMemory, ReadFailed, WriteFailed, TooLarge, UnknownSet}
+use Rattle.file_conversion.specs.declared.fault.ConversionError.TheVariants.{
+  OutOfMemory,
+  ReadFailed,
+  WriteFailed,
+  TooLarge,
+  UnknownSet,
+}
 use Rattle.unit_lines.specs.Lines.{Line}
 use Rattle.unit_lines.specs.Moves.{moved}
 use Rattle.file_conversion.specs.Conversion.{line_characters, text_of_lines}

@@ -1,5 +1,30 @@
 -- The set that the first HEAD names, and its line CHAR (GEDCOM 5.5.1, chapter 1).
-use Rattle.std.specs.Prelude.{◌≡◌, ℕ, ◌+◌, ◌-◌, ◌==◌, ◌&&◌, ◌||◌, Bool, true, false, List, [], ◌∷◌, ◌++◌, Option, Some, None, codes, drop, length, map, nat_lt, take, if◌then◌else◌}
+use Rattle.std.specs.Prelude.{
+  ◌≡◌,
+  ℕ,
+  ◌+◌,
+  ◌-◌,
+  ◌==◌,
+  ◌&&◌,
+  ◌||◌,
+  Bool,
+  true,
+  false,
+  List,
+  [],
+  ◌∷◌,
+  ◌++◌,
+  Option,
+  Some,
+  None,
+  codes,
+  drop,
+  length,
+  map,
+  nat_lt,
+  take,
+  if◌then◌else◌,
+}
 use Rattle.std.specs.Char.{to_ascii_uppercase}
 use Rattle.std.specs.List.{prefix_len, suffix_len}
 use Rattle.std.specs.Str.{bytes_eq}

@@ -1,5 +1,32 @@
 -- The set of a file, and the file in UTF-8.
-use Rattle.std.specs.Prelude.{ℕ, ◌+◌, ◌-◌, ◌==◌, ◌&&◌, ◌||◌, Bool, false, not, List, [], ◌∷◌, ◌++◌, Option, Some, None, Result, Ok, Err, drop, encode_utf8_all, filter, length, nat_lt, take, if◌then◌else◌}
+use Rattle.std.specs.Prelude.{
+  ℕ,
+  ◌+◌,
+  ◌-◌,
+  ◌==◌,
+  ◌&&◌,
+  ◌||◌,
+  Bool,
+  false,
+  not,
+  List,
+  [],
+  ◌∷◌,
+  ◌++◌,
+  Option,
+  Some,
+  None,
+  Result,
+  Ok,
+  Err,
+  drop,
+  encode_utf8_all,
+  filter,
+  length,
+  nat_lt,
+  take,
+  if◌then◌else◌,
+}
 use Rattle.std.specs.List.{list_all, flat_map, suffix_len}
 use Rattle.character_sets.specs.declared.set.CharacterSet.{CharacterSet}
 use Rattle.character_sets.specs.declared.set.CharacterSet.TheVariants.{Utf8, Utf16Le, Utf16Be, CodePage437}

@@ -4,7 +4,13 @@ use Rattle.std.specs.Io.KnownBytes.{Appends}
 use Rattle.devices.specs.Devices.{AppendsBeginning}
 use Rattle.character_sets.specs.declared.set.CharacterSet.{CharacterSet}
 use Rattle.file_conversion.specs.declared.fault.ConversionError.{ConversionError}
-use Rattle.file_conversion.specs.declared.fault.ConversionError.TheVariants.{OutOfMemory, ReadFailed, WriteFailed, TooLarge, UnknownSet}
+use Rattle.file_conversion.specs.declared.fault.ConversionError.TheVariants.{
+  OutOfMemory,
+  ReadFailed,
+  WriteFailed,
+  TooLarge,
+  UnknownSet,
+}
 use Rattle.file_conversion.specs.Conversion.{set_of_file, text_of_file}
 
 -- the most bytes that are read, and that are written

@@ -19,7 +19,11 @@ ghost use Rattle.std.specs.Io.KnownBytes.{Appends, Keeps};
 ghost use Rattle.devices.specs.Devices.{AppendsBeginning, Rose};
 ghost use Rattle.character_sets.specs.Sets.{characters};
 ghost use Rattle.unit_lines.specs.Lines.{lines};
-ghost use Rattle.file_conversion.specs.Conversion.{text_of_file as text_of_file_of, text_of_lines, text_of_units as text_of_units_of};
+ghost use Rattle.file_conversion.specs.Conversion.{
+  text_of_file as text_of_file_of,
+  text_of_lines,
+  text_of_units as text_of_units_of,
+};
 ghost use Rattle.file_conversion.specs.Streams.{
   Begun,
   Converted,

@@ -24,8 +24,8 @@ use character_sets::{CharacterSet, is_read_alike, is_utf8};
 use std::alloc::{AllocError, Global};
 use unit_lines::{Moved, first_line, is_blank, moved_line};
 
-/// The set of a file, where one may be asked for. The inner error is the number of the line that leaves it open, counted
-/// from 1 without blank lines.
+/// The set of a file, where one may be asked for. The inner error is the number of the line that leaves it open,
+/// counted from 1 without blank lines.
 #[tactic(auto, unfolding(crate::specs::Conversion::set_of_file))]
 pub fn set_of_file(
     alloc: Global,

@@ -1,5 +1,30 @@
 -- The first line of units.
-use Rattle.std.proofs.Common.{◌≡◌, ◌∙◌, ◌+◌, ◌<◌, ◌++◌, ◌∷◌, [], Bool, List, ap, arith, cond, drop, false, length, length-drop, not, refl, suc, sym, take, true, zero, ℕ}
+use Rattle.std.proofs.Common.{
+  ◌≡◌,
+  ◌∙◌,
+  ◌+◌,
+  ◌<◌,
+  ◌++◌,
+  ◌∷◌,
+  [],
+  Bool,
+  List,
+  ap,
+  arith,
+  cond,
+  drop,
+  false,
+  length,
+  length-drop,
+  not,
+  refl,
+  suc,
+  sym,
+  take,
+  true,
+  zero,
+  ℕ,
+}
 use Rattle.std.proofs.lemmas.List.{take-append-drop}
 use Rattle.std.specs.List.{prefix_len}
 use Rattle.unit_lines.specs.Lines.{Line, is_body, is_ending, lines, onto_first, units_of}
@@ -19,7 +44,8 @@ at_end u us e = ap (λ (b : Bool). cond b (record { body = []; ending = u ∷ []
 
 in_body : (u : ℕ) (us : List ℕ) → is_ending u ≡ false → lines (u ∷ us) ≡ onto_first u (lines us)
 unfolding lines
-in_body u us e = ap (λ (b : Bool). cond b (record { body = []; ending = u ∷ [] } ∷ lines us) (onto_first u (lines us))) e
+in_body u us e =
+    ap (λ (b : Bool). cond b (record { body = []; ending = u ∷ [] } ∷ lines us) (onto_first u (lines us))) e
 
 last_of : (u m : ℕ) → m ≡ 0 → onto_first u [] ≡ cut_lines (suc m) (u ∷ [])
 last_of u zero e = ap (λ ls. record { body = u ∷ []; ending = [] } ∷ ls) (sym (none [] (omega arith)))
@@ -64,8 +90,8 @@ parts more = sym (take-append-drop 1 more) ∙ ap (λ r. take 1 more ++ r) (sym 
 pub shorter : (us : List ℕ) (n : ℕ) → 0 < length us → length (drop 1 (drop n us)) < length us
 shorter us n h = rw (length-drop 1 (drop n us), length-drop n us) (omega (arith, h))
 
-pub is_first : (us body ending more rest : List ℕ) (n : ℕ) → 0 < length us → n ≡ prefix_len is_body us → body ≡ take n us
-    → more ≡ drop n us → ending ≡ take 1 more → rest ≡ drop 1 more
+pub is_first : (us body ending more rest : List ℕ) (n : ℕ) → 0 < length us → n ≡ prefix_len is_body us
+    → body ≡ take n us → more ≡ drop n us → ending ≡ take 1 more → rest ≡ drop 1 more
     → lines us ≡ record { body = body; ending = ending } ∷ lines rest
 is_first us body ending more rest n h e b m en r = rw (b, en, r, m) (cut us n h e)
 

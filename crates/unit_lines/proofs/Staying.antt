@@ -1,5 +1,27 @@
 -- What stays of lines, where units go to the next one.
-use Rattle.std.proofs.Common.{◌≡◌, ◌∙◌, ◌-◌, ◌++◌, ◌∷◌, [], List, Option, Some, None, ap, arith, drop, if◌then◌else◌, length, map, refl, take, true, false, ℕ}
+use Rattle.std.proofs.Common.{
+  ◌≡◌,
+  ◌∙◌,
+  ◌-◌,
+  ◌++◌,
+  ◌∷◌,
+  [],
+  List,
+  Option,
+  Some,
+  None,
+  ap,
+  arith,
+  drop,
+  if◌then◌else◌,
+  length,
+  map,
+  refl,
+  take,
+  true,
+  false,
+  ℕ,
+}
 use Rattle.std.proofs.Math.Seq.{take-length}
 use Rattle.std.proofs.lemmas.List.{drop_all}
 use Rattle.character_sets.specs.declared.set.CharacterSet.{CharacterSet}

@@ -1,6 +1,29 @@
--- The head of a line: level, cross reference and tag (GEDCOM 5.5.1, chapter 1). It is read of units of any set, since it
--- is ASCII but for the cross reference.
-use Rattle.std.specs.Prelude.{ℕ, ◌+◌, ◌-◌, ◌*◌, ◌==◌, ◌&&◌, ◌||◌, Bool, true, false, not, List, [], ◌∷◌, Option, Some, None, drop, length, nat_le, take, if◌then◌else◌}
+-- The head of a line: level, cross reference and tag (GEDCOM 5.5.1, chapter 1). It is read of units of any set, since
+-- it is ASCII but for the cross reference.
+use Rattle.std.specs.Prelude.{
+  ℕ,
+  ◌+◌,
+  ◌-◌,
+  ◌*◌,
+  ◌==◌,
+  ◌&&◌,
+  ◌||◌,
+  Bool,
+  true,
+  false,
+  not,
+  List,
+  [],
+  ◌∷◌,
+  Option,
+  Some,
+  None,
+  drop,
+  length,
+  nat_le,
+  take,
+  if◌then◌else◌,
+}
 use Rattle.std.specs.List.{list_all, prefix_len}
 use Rattle.std.specs.Str.{bytes_eq}
 use Rattle.unit_lines.specs.declared.heads.KnownTag.{KnownTag}

@@ -1,6 +1,26 @@
 -- What a line that goes on with another one (CONC) was cut at: units at the end of a value that belong to a character
 -- of the next line go to the beginning of that line's value. No line is joined with another.
-use Rattle.std.specs.Prelude.{ℕ, ◌+◌, ◌-◌, ◌==◌, ◌&&◌, Bool, true, false, List, [], ◌∷◌, ◌++◌, Option, Some, None, drop, length, take, if◌then◌else◌}
+use Rattle.std.specs.Prelude.{
+  ℕ,
+  ◌+◌,
+  ◌-◌,
+  ◌==◌,
+  ◌&&◌,
+  Bool,
+  true,
+  false,
+  List,
+  [],
+  ◌∷◌,
+  ◌++◌,
+  Option,
+  Some,
+  None,
+  drop,
+  length,
+  take,
+  if◌then◌else◌,
+}
 use Rattle.character_sets.specs.declared.set.CharacterSet.{CharacterSet}
 use Rattle.character_sets.specs.Cuts.{cut_units}
 use Rattle.unit_lines.specs.declared.heads.KnownTag.{KnownTag}
