@@ -22,6 +22,7 @@ sys.dont_write_bytecode = True
 
 import archives  # noqa: E402
 import audits  # noqa: E402
+import conversions  # noqa: E402
 import days  # noqa: E402
 import devices  # noqa: E402
 import documents  # noqa: E402
@@ -76,6 +77,7 @@ PARTS = (
     streams,
     untouched,
     visits,
+    conversions,
     scripts,
     releases,
     documents,
@@ -85,6 +87,7 @@ PARTS = (
 )
 PIECES = "tree_pieces"
 VISITS = "visit_rows"
+CONVERSIONS = "conversion_rows"
 
 
 def executable(crate):
@@ -111,7 +114,7 @@ def tools_of(given):
     parish = command(given.parish) if given.parish else (executable("parish"),)
     if given.pieces:
         return Tools(parish, command(given.pieces))
-    return Tools(parish, built(PIECES, given), built(VISITS, given))
+    return Tools(parish, built(PIECES, given), built(VISITS, given), built(CONVERSIONS, given))
 
 
 def outcome_of(case: Case):

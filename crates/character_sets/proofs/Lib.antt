@@ -1,0 +1,4 @@
+pub mod Lists
+pub mod Characters
+pub mod Ascii
+pub mod Pages

@@ -1,0 +1,77 @@
+//! Converts the file of each line of standard input. A line has the word of a set, or `-`, and the bytes of the file in
+//! hexadecimal digits; it is answered by the set in which the file was read, and what was written, in such digits, or
+//! by why it was not. A tool of tests, no part of the product.
+#![tactic(auto)]
+
+use character_sets::CharacterSet;
+use devices::Counted;
+use file_conversion::{ConversionError, convert};
+use std::alloc::Global;
+use std::io::{self, BufRead, BufReader, BufWriter, ErrorKind, Write};
+
+fn main(rt: HostRuntime) -> io::Result<()> {
+    let alloc = rt.alloc();
+    let mut out = BufWriter::new(alloc, io::writer(&rt))?;
+    for line in BufReader::new(alloc, rt.reader())?.lines(alloc) {
+        let answer = answer_line(alloc, line?.as_str())?;
+        out.write_all(answer.as_bytes())?;
+        out.write_all(b"\n")?;
+    }
+    out.flush()
+}
+
+/// What is written of a line.
+fn answer_line(alloc: Global, line: &str) -> io::Result<String> {
+    let mut words = line.split(' ');
+    let asked = set_of(words.next().unwrap_or("-"));
+    let file = match hex::decode(alloc, words.next().unwrap_or("")) {
+        Ok(file) => file,
+        Err(_) => return Err(io::Error::from(ErrorKind::InvalidData)),
+    };
+    let mut text: Vec<u8> = Vec::new(alloc);
+    let mut reader = Counted::new(file.as_slice());
+    let mut writer = Counted::new(&mut text);
+    let end = convert(alloc, asked, &mut reader, &mut writer);
+    let mut answer = end_of(alloc, end)?;
+    answer.push_str(" ")?;
+    answer.push_str(hex::encode(alloc, &text)?.as_str())?;
+    Ok(answer)
+}
+
+/// The set, or why there is none.
+fn end_of(alloc: Global, end: Result<CharacterSet, ConversionError>) -> io::Result<String> {
+    let text = match end {
+        Ok(set) => String::from_str(alloc, word_of(set))?,
+        Err(ConversionError::UnknownSet(line)) => format!(in alloc; "29:{line}")?,
+        Err(ConversionError::TooLarge) => String::from_str(alloc, "27")?,
+        Err(_) => return Err(io::Error::from(ErrorKind::OutOfMemory)),
+    };
+    Ok(text)
+}
+
+fn set_of(word: &str) -> Option<CharacterSet> {
+    match word {
+        "utf-8" => Some(CharacterSet::Utf8),
+        "utf-16le" => Some(CharacterSet::Utf16Le),
+        "utf-16be" => Some(CharacterSet::Utf16Be),
+        "1252" => Some(CharacterSet::Windows1252),
+        "437" => Some(CharacterSet::CodePage437),
+        "850" => Some(CharacterSet::CodePage850),
+        "macintosh" => Some(CharacterSet::Macintosh),
+        "ansel" => Some(CharacterSet::Ansel),
+        _ => None,
+    }
+}
+
+fn word_of(set: CharacterSet) -> &'static str {
+    match set {
+        CharacterSet::Utf8 => "utf-8",
+        CharacterSet::Utf16Le => "utf-16le",
+        CharacterSet::Utf16Be => "utf-16be",
+        CharacterSet::Windows1252 => "1252",
+        CharacterSet::CodePage437 => "437",
+        CharacterSet::CodePage850 => "850",
+        CharacterSet::Macintosh => "macintosh",
+        CharacterSet::Ansel => "ansel",
+    }
+}

@@ -1,0 +1,11 @@
+use Rattle.std.proofs.Common.{◌∙◌, ◌<◌, ◌++◌, ap, arith, length, rules, sym}
+use Rattle.std.proofs.lemmas.List.{append-nil}
+use Rattle.file_conversion.specs.Charsets.{said_in}
+use Rattle.unit_lines.proofs.FirstLines.{none}
+use Rattle.file_conversion.proofs.naming.said.Goals as goal
+
+pub returns : goal.returns
+returns c = let h : length c.lines.rest.now < 1 = first_of (search rules, grind arith) in
+    sym (append-nil c.lines.all.items)
+    ∙ (sym (ap (λ ls. c.lines.all.items ++ said_in c.args.named c.lines.place ls) (none c.lines.rest.now h))
+    ∙ c.lines.invariant)

@@ -1,0 +1,9 @@
+use Rattle.std.proofs.Common.{◌≡◌, length}
+use Rattle.file_conversion.specs.Conversion.{past_utf8_marks}
+use Rattle.file_conversion.proofs.units.past_utf8_marks.Given as goal
+
+abbrev pub invariant-marks : goal.invariant-marks
+invariant-marks l = past_utf8_marks l.rest ≡ past_utf8_marks l.fn.units
+
+abbrev pub decreases-marks : goal.decreases-marks
+decreases-marks l = length l.rest

@@ -1,0 +1,3 @@
+pub mod Charsets
+pub mod Conversion
+pub mod Streams

@@ -1,0 +1,19 @@
+//! Files of lines in the character sets that societies have them in, written in UTF-8.
+//!
+//! It uses `character_sets` for the characters, `unit_lines` for the lines, and `devices`. It knows HEAD and CHAR.
+//!
+//! Callers may rely on: what is written depends on the bytes alone; nothing is written before the whole file was read,
+//! its set is known and its text is made; each line and each line end stays, but for the value of CHAR, a line CHAR
+//! where there is none, and what a CONC was cut in.
+#![tactic(auto)]
+
+mod charsets;
+mod converting;
+mod deciding;
+mod fault;
+mod naming;
+mod units;
+
+pub use converting::convert;
+pub use deciding::set_of_file;
+pub use fault::ConversionError;

@@ -1,0 +1,4 @@
+pub mod Lines
+pub mod Heads
+pub mod Moves
+pub mod Kept
