@@ -24,16 +24,10 @@ use Rattle.std.proofs.Common.{
 use Rattle.std.specs.List.{flat_map, list_any, slice_split}
 use Rattle.std.proofs.lemmas.List.{map-append}
 use Rattle.std.proofs.lemmas.List.Folds.{list_any-append}
-use Rattle.search_keys.specs.Words.{after_apostrophes, filled, found_by, is_apostrophe, is_gap, is_letter, key_of}
+use Rattle.search_keys.specs.Words.{after_apostrophes, begins, filled, found_by, is_apostrophe, is_gap, is_letter, key_of}
 use Rattle.search_keys.specs.Scans.{begins_text, occurs_in}
 use Rattle.list_laws.proofs.Booleans.{and_never, or_right}
 use Rattle.search_keys.proofs.Gathered.{first, first_more, key_more, others, others_more, split_is}
-
--- the key begins with the word
-abbrev pub begins_key : List ℕ → List ℕ → Bool
-begins_key [] key = true
-begins_key (x ∷ xs) [] = false
-begins_key (x ∷ xs) (c ∷ cs) = (x == c) && begins_key xs cs
 
 text_more : (x : ℕ) (xs : List ℕ) (c : ℕ) (cs : List ℕ) (a l : Bool) → is_apostrophe c ≡ a → is_letter c ≡ l
     → begins_text (x ∷ xs) (c ∷ cs)
@@ -45,19 +39,19 @@ and_true : (b : Bool) → (b && true) ≡ b
 and_true true = refl
 and_true false = refl
 
-pub begins_first : (word cs : List ℕ) → begins_text word cs ≡ begins_key word (key_of (first cs))
+pub begins_first : (word cs : List ℕ) → begins_text word cs ≡ begins word (key_of (first cs))
 begins_first [] cs = refl
 begins_first (x ∷ xs) [] = refl
 begins_first (x ∷ xs) (c ∷ cs) =
     here (begins_first (x ∷ xs) cs) (begins_first xs cs) (is_apostrophe c) (is_letter c) refl refl
   where
     key_is : (front : List ℕ) → first (c ∷ cs) ≡ front → (key : List ℕ) → key_of front ≡ key
-        → begins_key (x ∷ xs) (key_of (first (c ∷ cs))) ≡ begins_key (x ∷ xs) key
-    key_is front f key k = ap (begins_key (x ∷ xs)) (ap key_of f ∙ k)
+        → begins (x ∷ xs) (key_of (first (c ∷ cs))) ≡ begins (x ∷ xs) key
+    key_is front f key k = ap (begins (x ∷ xs)) (ap key_of f ∙ k)
 
-    here : begins_text (x ∷ xs) cs ≡ begins_key (x ∷ xs) (key_of (first cs))
-        → begins_text xs cs ≡ begins_key xs (key_of (first cs)) → (a l : Bool) → is_apostrophe c ≡ a
-        → is_letter c ≡ l → begins_text (x ∷ xs) (c ∷ cs) ≡ begins_key (x ∷ xs) (key_of (first (c ∷ cs)))
+    here : begins_text (x ∷ xs) cs ≡ begins (x ∷ xs) (key_of (first cs))
+        → begins_text xs cs ≡ begins xs (key_of (first cs)) → (a l : Bool) → is_apostrophe c ≡ a
+        → is_letter c ≡ l → begins_text (x ∷ xs) (c ∷ cs) ≡ begins (x ∷ xs) (key_of (first (c ∷ cs)))
     here same more true l ea el = text_more x xs c cs true l ea el ∙ same
         ∙ sym (key_is (c ∷ first cs) (first_more c cs true l ea el) (key_of (first cs))
         (key_more c cs true l ea el (first cs)))
@@ -72,7 +66,7 @@ begins_first (x ∷ xs) (c ∷ cs) =
 module _ (word : List ℕ) where
   -- one of the keys of these parts begins with the word
   abbrev any_of : List (List ℕ) → Bool
-  any_of parts = list_any (begins_key word) (filled (map key_of parts))
+  any_of parts = list_any (begins word) (filled (map key_of parts))
 
   abbrev beginnings : List ℕ → List (List ℕ)
   beginnings part = part ∷ after_apostrophes part
@@ -80,10 +74,10 @@ module _ (word : List ℕ) where
   -- the key has a character and begins with the word
   abbrev one : List ℕ → Bool
   one [] = false
-  one (c ∷ cs) = begins_key word (c ∷ cs)
+  one (c ∷ cs) = begins word (c ∷ cs)
 
   any_more : (key : List ℕ) (keys : List (List ℕ))
-      → list_any (begins_key word) (filled (key ∷ keys)) ≡ (one key || list_any (begins_key word) (filled keys))
+      → list_any (begins word) (filled (key ∷ keys)) ≡ (one key || list_any (begins word) (filled keys))
   any_more [] keys = refl
   any_more (c ∷ cs) keys = refl
 
@@ -147,7 +141,7 @@ module _ (word : List ℕ) where
 
     letter_fresh : fresh (c ∷ cs) ≡ (begins_text word (c ∷ cs) || within cs)
     letter_fresh = fresh_is (c ∷ cs) ∙ ap₂ ◌||◌ (ap one letter_key ∙ sym (begins_first word (c ∷ cs)
-        ∙ ap (begins_key word) letter_key)) letter_within
+        ∙ ap (begins word) letter_key)) letter_within
 
   -- ---- what parts words
   module _ (c : ℕ) (cs : List ℕ) (ea : is_apostrophe c ≡ false) (el : is_letter c ≡ false) where
@@ -159,10 +153,10 @@ module _ (word : List ℕ) where
     gap_fresh = fresh_is (c ∷ cs) ∙ ap₂ (λ (k : List ℕ) (b : Bool). one k || b)
         (ap key_of (first_more c cs false false ea el)) gap_within
 
-  pub occurs_is : (begins : Bool) (cs : List ℕ) → occurs_in word begins cs ≡ cond begins (fresh cs) (within cs)
+  pub occurs_is : (starts : Bool) (cs : List ℕ) → occurs_in word starts cs ≡ cond starts (fresh cs) (within cs)
   occurs_is true [] = refl
   occurs_is false [] = refl
-  occurs_is begins (c ∷ cs) = here (occurs_is true cs) (occurs_is false cs) (is_apostrophe c) (is_letter c) begins
+  occurs_is starts (c ∷ cs) = here (occurs_is true cs) (occurs_is false cs) (is_apostrophe c) (is_letter c) starts
       refl refl
     where
       here : occurs_in word true cs ≡ fresh cs → occurs_in word false cs ≡ within cs → (a l b : Bool)
@@ -184,9 +178,9 @@ module _ (word : List ℕ) where
   filled_append ((c ∷ cs) ∷ xs) ys = ap (λ l. (c ∷ cs) ∷ l) (filled_append xs ys)
 
   any_append : (xs ys : List (List ℕ)) → any_of (xs ++ ys) ≡ (any_of xs || any_of ys)
-  any_append xs ys = ap (λ l. list_any (begins_key word) (filled l)) (map-append key_of xs ys)
-      ∙ ap (list_any (begins_key word)) (filled_append (map key_of xs) (map key_of ys))
-      ∙ list_any-append (begins_key word) (filled (map key_of xs)) (filled (map key_of ys))
+  any_append xs ys = ap (λ l. list_any (begins word) (filled l)) (map-append key_of xs ys)
+      ∙ ap (list_any (begins word)) (filled_append (map key_of xs) (map key_of ys))
+      ∙ list_any-append (begins word) (filled (map key_of xs)) (filled (map key_of ys))
 
   -- a part begins where it begins
   pub any_whole : (parts : List (List ℕ)) → any_of parts ≡ true → any_of (flat_map beginnings parts) ≡ true
@@ -205,5 +199,5 @@ module _ (word : List ℕ) where
           (rest (sym (ap (λ b. b || any_of parts) is) ∙ h)))
 
   -- the word begins a word of the text
-  pub occurs_any : (cs : List ℕ) → occurs_in word true cs ≡ list_any (begins_key word) (found_by cs)
+  pub occurs_any : (cs : List ℕ) → occurs_in word true cs ≡ list_any (begins word) (found_by cs)
   occurs_any cs = occurs_is true cs

@@ -3,6 +3,8 @@ use Rattle.std.specs.Prelude.{
   ◌≡◌,
   ℕ,
   Bool,
+  true,
+  false,
   not,
   ◌&&◌,
   ◌||◌,
@@ -17,7 +19,7 @@ use Rattle.std.specs.Prelude.{
   flat_map,
   Contains,
 }
-use Rattle.std.specs.List.{slice_split}
+use Rattle.std.specs.List.{list_all, list_any, slice_split}
 use Rattle.ucd_category.specs.GeneralCategory.{general_category}
 use Rattle.ucd_category.specs.GeneralCategoryGroup.{in_group}
 use Rattle.ucd_category.specs.declared.GeneralCategoryGroup.TheVariants.{Letter, Number}
@@ -60,6 +62,16 @@ after_apostrophes (c ∷ cs) = if is_apostrophe c then cs ∷ after_apostrophes 
 -- the words by which a text is found: what stands after an apostrophe begins one too
 abbrev pub found_by : List ℕ → List (List ℕ)
 found_by text = filled (map key_of (flat_map (λ part. part ∷ after_apostrophes part) (slice_split is_gap text)))
+
+-- the key begins with the word, as a test
+abbrev pub begins : List ℕ → List ℕ → Bool
+begins [] key = true
+begins (x ∷ xs) [] = false
+begins (x ∷ xs) (c ∷ cs) = (x == c) && begins xs cs
+
+-- each of the words begins a word of the text, as a test
+abbrev pub all_occur : List (List ℕ) → List ℕ → Bool
+all_occur words text = list_all (λ word. list_any (begins word) (found_by text)) words
 
 -- the key begins with the word
 abbrev pub Begins : List ℕ → List ℕ → Type 0

@@ -5,7 +5,7 @@ ghost use Rattle.std.specs.List.{list_all};
 ghost use Rattle.search_keys.specs.Folding.{folded_name, folded_text};
 ghost use Rattle.search_keys.specs.Scans.{begins_text, items, keys, occurs_in};
 ghost use Rattle.search_keys.specs.Words.{
-  AllOccur,
+  all_occur as occur_test,
   filled,
   is_apostrophe as apostrophe_test,
   is_letter as letter_test,
@@ -97,7 +97,7 @@ impl SearchWords {
 
     /// Whether each of the words begins a word of the text. Takes no memory.
     pub fn occur_in(&self, text: &SearchText) -> bool
-        ensures { IsTrue result ↔ AllOccur self.now text.now }
+        ensures { result ≡ occur_test self.now text.now }
     {
         all_occur(&self.words, &text.characters)
     }
