@@ -12,7 +12,7 @@ mod printing;
 mod walking;
 mod wanted;
 
-pub use lines::Line;
-pub use printing::shown;
+pub use lines::{Line, line_of};
+pub use printing::{shown, shown_character};
 pub use walking::page;
 pub use wanted::{Kind, Wanted};

@@ -28,8 +28,8 @@ impl Model for Line {
     ghost view = { λ a. (a.number, string_bytes a.text) };
 }
 
-/// The line of a record. Refused only for want of memory.
-pub(crate) fn line_of(alloc: Global, number: u32, record: &Record) -> Result<String, AllocError>
+/// The line of a record, without a line end. Refused only for want of memory.
+pub fn line_of(alloc: Global, number: u32, record: &Record) -> Result<String, AllocError>
     ensures { IfOk result (λ s. string_bytes s ≡ lines.line number «record».now) }
 {
     let mut out = String::new(alloc);

@@ -12,7 +12,8 @@ pub fn shown(alloc: Global, text: &str) -> Result<String, AllocError>
     text.chars().map(|c| shown_character(c)).collect(alloc)
 }
 
-fn shown_character(c: char) -> char
+/// The character as it is printed.
+pub fn shown_character(c: char) -> char
     ensures { result ≡ character_of c }
 {
     if is_hidden(c) { ' ' } else { c }

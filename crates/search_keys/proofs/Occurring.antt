@@ -24,7 +24,16 @@ use Rattle.std.proofs.Common.{
 use Rattle.std.specs.List.{flat_map, list_any, slice_split}
 use Rattle.std.proofs.lemmas.List.{map-append}
 use Rattle.std.proofs.lemmas.List.Folds.{list_any-append}
-use Rattle.search_keys.specs.Words.{after_apostrophes, begins, filled, found_by, is_apostrophe, is_gap, is_letter, key_of}
+use Rattle.search_keys.specs.Words.{
+  after_apostrophes,
+  begins,
+  filled,
+  found_by,
+  is_apostrophe,
+  is_gap,
+  is_letter,
+  key_of,
+}
 use Rattle.search_keys.specs.Scans.{begins_text, occurs_in}
 use Rattle.list_laws.proofs.Booleans.{and_never, or_right}
 use Rattle.search_keys.proofs.Gathered.{first, first_more, key_more, others, others_more, split_is}
