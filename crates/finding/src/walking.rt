@@ -1,0 +1,127 @@
+//! The lines of the records that are wanted, of which each is read once.
+
+ghost use Rattle.std.specs.Prelude.{◌≡◌, ◌≤◌, ◌<◌, ◌+◌, ◌-◌, ◌++◌, OnOk, Some};
+ghost use Rattle.std.specs.FinMap as map;
+ghost use Rattle.archive_state.specs.Sound.{IsSound};
+ghost use Rattle.archive_view.specs.Looks.{CountsFailures, Looked};
+ghost use Rattle.archive_view.specs.Views.{On};
+ghost use Rattle.finding.specs.Lines as lines;
+ghost use Rattle.finding.specs.Walking as walking;
+
+use crate::lines::{Line, line_of};
+use crate::wanted::{Wanted, is_wanted};
+use archive_view::View;
+use records::{Record, RefusalKind};
+use std::alloc::{AllocError, Global};
+
+/// How many numbers there are from 0 on.
+const NUMBERS: u64 = 4_294_967_296;
+
+/// The lines of the first so many records after a number that are wanted, by number. Where there are as many as were
+/// asked for, there may be more after the last of them. A record is read at a time; every number below the next one is
+/// asked for, since a view does not say which numbers have a record. Nothing is changed.
+pub fn page<V: View>(
+    alloc: Global,
+    view: &mut V,
+    wanted: &Wanted,
+    after: u32,
+    limit: usize,
+) -> Result<Vec<Line>, RefusalKind>
+    ensures shows { On V.View view.old view.new (λ c. Looked result
+        (λ found. IsSound c → found.items ≡ lines.page wanted.now after limit (map.entries c.records))) }
+    ensures counts { CountsFailures (V.failed view.old) (V.failed view.new) result }
+{
+    let next = view.next(alloc)?;
+    let count = last_number(next).saturating_sub(after);
+    walked(alloc, view, wanted, after, limit, count)
+}
+
+/// The number before the next one.
+fn last_number(next: u64) -> u32
+    ensures { next ≤ 4294967296 → result ≡ next - 1 }
+{
+    let last = next.saturating_sub(1);
+    if last < NUMBERS {
+        last as u32
+    } else {
+        u32::MAX
+    }
+}
+
+/// The lines of so many numbers after one.
+#[tactic(auto, using(crate::proofs::Walked::one_more))]
+fn walked<V: View>(
+    alloc: Global,
+    view: &mut V,
+    wanted: &Wanted,
+    after: u32,
+    limit: usize,
+    count: u32,
+) -> Result<Vec<Line>, RefusalKind>
+    requires { after + count < 4294967296 }
+    ensures shows { On V.View view.old view.new (λ c. Looked result
+        (λ found. found.items ≡ walking.walked (map.get c.records) wanted.now limit after count)) }
+    ensures counts { CountsFailures (V.failed view.old) (V.failed view.new) result }
+{
+    let mut lines = Vec::new(alloc);
+    'numbers: for before in 0..count {
+        read_at(alloc, view, wanted, limit, after + (before + 1), &mut lines)?;
+    }
+    Ok(lines)
+}
+
+/// Adds the line of what stands at a number, unless there are lines enough.
+fn read_at<V: View>(
+    alloc: Global,
+    view: &mut V,
+    wanted: &Wanted,
+    limit: usize,
+    number: u32,
+    lines: &mut Vec<Line>,
+) -> Result<(), RefusalKind>
+    ensures shows { On V.View view.old view.new (λ c. Looked result (λ _. lines.new.items
+        ≡ walking.with_found wanted.now limit number (map.get c.records number) lines.old.items)) }
+    ensures counts { CountsFailures (V.failed view.old) (V.failed view.new) result }
+{
+    if lines.len() >= limit {
+        return Ok(());
+    }
+    let found = view.record_at(alloc, number)?;
+    match add_found(alloc, wanted, number, found, lines) {
+        Ok(()) => Ok(()),
+        Err(_) => Err(RefusalKind::OutOfMemory),
+    }
+}
+
+/// Adds the line of a record, where there is one that is wanted. The record is given back here.
+fn add_found(
+    alloc: Global,
+    wanted: &Wanted,
+    number: u32,
+    found: Option<Record>,
+    lines: &mut Vec<Line>,
+) -> Result<(), AllocError>
+    ensures { OnOk result (lines.new.items ≡ lines.old.items ++ walking.line_at wanted.now number found) }
+{
+    match &found {
+        Some(record) => add_line(alloc, wanted, number, record, lines),
+        None => Ok(()),
+    }
+}
+
+fn add_line(
+    alloc: Global,
+    wanted: &Wanted,
+    number: u32,
+    record: &Record,
+    lines: &mut Vec<Line>,
+) -> Result<(), AllocError>
+    ensures { OnOk result (lines.new.items
+        ≡ lines.old.items ++ walking.line_at wanted.now number (Some «record».now)) }
+{
+    if is_wanted(alloc, wanted, record)? {
+        let text = line_of(alloc, number, record)?;
+        lines.push(Line { number, text })?;
+    }
+    Ok(())
+}

@@ -1,0 +1,4 @@
+pub mod Folds
+pub mod Gathered
+pub mod Occurring
+pub mod Outcome

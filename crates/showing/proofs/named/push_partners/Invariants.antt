@@ -1,0 +1,7 @@
+use Rattle.std.proofs.Common.{◌≡◌, ◌++◌, map, take}
+use Rattle.record_kinds.specs.Model as model
+use Rattle.showing.proofs.named.push_partners.Given as goal
+
+abbrev pub invariant-each : goal.invariant-each
+invariant-each l = l.numbers.items
+    ≡ l.fn.numbers.items ++ map (λ (x : model.Partner). x.person) (take l.partner-index l.partners)

@@ -1,0 +1,204 @@
+//! A record shown whole.
+
+ghost use Rattle.std.specs.Prelude.{◌≡◌, ◌++◌, IfOk, OnOk, Some, option_map, string_bytes};
+ghost use Rattle.std.specs.FinMap as map;
+ghost use Rattle.std.specs.List.{flat_map};
+ghost use Rattle.archive_state.specs.Referrers.{referrers};
+ghost use Rattle.archive_view.specs.Looks.{CountsFailures, Looked};
+ghost use Rattle.archive_view.specs.Views.{On};
+ghost use Rattle.showing.specs.Fields as fields;
+ghost use Rattle.showing.specs.Named as names;
+ghost use Rattle.showing.specs.Shown as shown;
+
+use crate::entries::{push_entry, push_other};
+use crate::events::push_event;
+use crate::named::named;
+use crate::persons::{push_family, push_person};
+use crate::sources::{push_citation, push_place, push_repo, push_source};
+use archive_view::View;
+use finding::{line_of, shown_character};
+use records::{Record, RefusalKind};
+use std::alloc::{AllocError, Global};
+
+/// The record of a number, whole: its line, its fields, the records that they name, and those that name it. `None`: no
+/// record has the number. Nothing is changed.
+pub fn show<V: View>(
+    alloc: Global,
+    view: &mut V,
+    number: u32,
+) -> Result<Option<String>, RefusalKind>
+    ensures shows { On V.View view.old view.new
+        (λ c. Looked result (λ found. option_map string_bytes found ≡ shown.shown_at c number)) }
+    ensures counts { CountsFailures (V.failed view.old) (V.failed view.new) result }
+{
+    let found = view.record_at(alloc, number)?;
+    show_found(alloc, view, number, found)
+}
+
+/// The same of what stands at the number. The record is given back here.
+fn show_found<V: View>(
+    alloc: Global,
+    view: &mut V,
+    number: u32,
+    found: Option<Record>,
+) -> Result<Option<String>, RefusalKind>
+    ensures shows { On V.View view.old view.new (λ c. Looked result (λ text. option_map string_bytes text
+        ≡ option_map (λ r. shown.shown_page (shown.whole c number r)) found)) }
+    ensures counts { CountsFailures (V.failed view.old) (V.failed view.new) result }
+{
+    match &found {
+        None => Ok(None),
+        Some(record) => show_record(alloc, view, number, record),
+    }
+}
+
+fn show_record<V: View>(
+    alloc: Global,
+    view: &mut V,
+    number: u32,
+    record: &Record,
+) -> Result<Option<String>, RefusalKind>
+    ensures shows { On V.View view.old view.new (λ c. Looked result (λ text. option_map string_bytes text
+        ≡ Some (shown.shown_page (shown.whole c number «record».now)))) }
+    ensures counts { CountsFailures (V.failed view.old) (V.failed view.new) result }
+{
+    let text = whole(alloc, view, number, record)?;
+    Ok(Some(shown_page(alloc, &text)?))
+}
+
+/// The whole text, before control characters are spaces.
+fn whole<V: View>(
+    alloc: Global,
+    view: &mut V,
+    number: u32,
+    record: &Record,
+) -> Result<String, RefusalKind>
+    ensures shows { On V.View view.old view.new
+        (λ c. Looked result (λ s. string_bytes s ≡ shown.whole c number «record».now)) }
+    ensures counts { CountsFailures (V.failed view.old) (V.failed view.new) result }
+{
+    let mut out = own(alloc, number, record)?;
+    let numbers = named(alloc, record)?;
+    push_all(alloc, view, &mut out, "names: ", &numbers)?;
+    push_named_by(alloc, view, &mut out, number)?;
+    Ok(out)
+}
+
+fn push_named_by<V: View>(
+    alloc: Global,
+    view: &mut V,
+    out: &mut String,
+    number: u32,
+) -> Result<(), RefusalKind>
+    ensures shows { On V.View view.old view.new (λ c. Looked result (λ _. string_bytes out.new
+        ≡ string_bytes out.old ++ flat_map (shown.behind shown.named_by_word c.records) (referrers c number))) }
+    ensures counts { CountsFailures (V.failed view.old) (V.failed view.new) result }
+{
+    let numbers = view.referrers(alloc, number)?;
+    push_all(alloc, view, out, "named by: ", &numbers)
+}
+
+/// A line for each of the numbers, behind a word.
+fn push_all<V: View>(
+    alloc: Global,
+    view: &mut V,
+    out: &mut String,
+    word: &str,
+    numbers: &[u32],
+) -> Result<(), RefusalKind>
+    ensures shows { On V.View view.old view.new (λ c. Looked result (λ _. string_bytes out.new
+        ≡ string_bytes out.old ++ flat_map (shown.behind word.now c.records) numbers.now)) }
+    ensures counts { CountsFailures (V.failed view.old) (V.failed view.new) result }
+{
+    'each: for number in numbers {
+        push_at(alloc, view, out, word, *number)?;
+    }
+    Ok(())
+}
+
+fn push_at<V: View>(
+    alloc: Global,
+    view: &mut V,
+    out: &mut String,
+    word: &str,
+    number: u32,
+) -> Result<(), RefusalKind>
+    ensures shows { On V.View view.old view.new (λ c. Looked result (λ _. string_bytes out.new
+        ≡ string_bytes out.old ++ shown.behind word.now c.records number)) }
+    ensures counts { CountsFailures (V.failed view.old) (V.failed view.new) result }
+{
+    let found = view.record_at(alloc, number)?;
+    match push_found(alloc, out, word, number, found) {
+        Ok(()) => Ok(()),
+        Err(_) => Err(RefusalKind::OutOfMemory),
+    }
+}
+
+/// A number with what stands there, behind a word. The record is given back here.
+fn push_found(
+    alloc: Global,
+    out: &mut String,
+    word: &str,
+    number: u32,
+    found: Option<Record>,
+) -> Result<(), AllocError>
+    ensures { OnOk result (string_bytes out.new ≡ string_bytes out.old ++ (word.now ++ shown.at_number number found)) }
+{
+    out.push_str(word)?;
+    match &found {
+        None => write!(out, "{number}\n"),
+        Some(record) => push_head(alloc, out, number, record),
+    }
+}
+
+fn push_head(
+    alloc: Global,
+    out: &mut String,
+    number: u32,
+    record: &Record,
+) -> Result<(), AllocError>
+    ensures { OnOk result (string_bytes out.new ≡ string_bytes out.old ++ shown.head number «record».now) }
+{
+    let line = line_of(alloc, number, record)?;
+    out.push_str(&line)?;
+    out.push_str("\n")
+}
+
+/// The line of a record, and its fields.
+fn own(alloc: Global, number: u32, record: &Record) -> Result<String, AllocError>
+    ensures { IfOk result (λ s. string_bytes s ≡ shown.head number «record».now ++ fields.fields «record».now) }
+{
+    let mut out = String::new(alloc);
+    push_head(alloc, &mut out, number, record)?;
+    push_fields(alloc, &mut out, record)?;
+    Ok(out)
+}
+
+fn push_fields(alloc: Global, out: &mut String, record: &Record) -> Result<(), AllocError>
+    ensures { OnOk result (string_bytes out.new ≡ string_bytes out.old ++ fields.fields «record».now) }
+{
+    match record {
+        Record::Person(person) => push_person(alloc, out, person),
+        Record::Family(family) => push_family(alloc, out, family),
+        Record::Event(event) => push_event(alloc, out, event),
+        Record::Place(place) => push_place(alloc, out, place),
+        Record::Repo(repo) => push_repo(alloc, out, repo),
+        Record::Source(source) => push_source(alloc, out, source),
+        Record::Citation(citation) => push_citation(alloc, out, citation),
+        Record::Entry(entry) => push_entry(out, entry),
+        Record::Other(other) => push_other(alloc, out, other),
+    }
+}
+
+/// The text as it is printed: each control character but LF, and each that turns the direction, is a space.
+fn shown_page(alloc: Global, text: &str) -> Result<String, AllocError>
+    ensures { IfOk result (λ s. string_bytes s ≡ shown.shown_page text.now) }
+{
+    text.chars().map(|c| shown_in_page(c)).collect(alloc)
+}
+
+fn shown_in_page(c: char) -> char
+    ensures { result ≡ shown.shown_in_page c }
+{
+    if c == '\n' { '\n' } else { shown_character(c) }
+}
