@@ -55,6 +55,8 @@ def put_edits(crate, room):
     """Copies the edits of a crate, and what its last check here has kept, over which each of them is tried."""
     proved = os.path.join("crates", crate, "out", "incremental")
     if os.path.isdir(os.path.join(ROOT, proved)):
+        # (what `rt` has kept of it for a crate above that was tried before)
+        shutil.rmtree(os.path.join(room, proved), ignore_errors=True)
         shutil.copytree(os.path.join(ROOT, proved), os.path.join(room, proved))
     folder = os.path.join(room, "crates", crate, "must-fail")
     os.makedirs(folder)
