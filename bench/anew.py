@@ -4,7 +4,7 @@ Of PERSONS persons (20,000 and 100,000) of bench/imports.py, with their events, 
 takes them in; then Python's module `sqlite3` makes of it an archive of the first version, in which the date of each
 event whose number ends in 0 is a French Republican one that was no date then. Told are wall and processor time and the
 most memory of the opening (`apply` without rows) that makes the archive anew, of three copies the fastest, of an
-opening behind it, and of `cat` of the file; and the size of the file before and after.
+opening after it, and of `cat` of the file; and the size of the file before and after.
 """
 
 from __future__ import annotations

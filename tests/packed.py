@@ -18,7 +18,7 @@ PACKS = f"SELECT {COLUMNS} FROM line ORDER BY no"
 
 
 def words(text: str | None) -> str:
-    """The text of a line behind its head: nothing where it has none, and else a space and the text, with CR for LF."""
+    """The text of a line after its head: nothing where it has none, and else a space and the text, with CR for LF."""
     return "" if text is None else " " + text.replace("\n", "\r")
 
 
