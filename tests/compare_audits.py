@@ -25,7 +25,7 @@ sys.dont_write_bytecode = True
 
 from beside import links_of, sought_of  # noqa: E402
 from harness import ROOT  # noqa: E402
-from packed import lines_of, put_lines  # noqa: E402
+from packed import lines_of, put_lines, row_of, unpack  # noqa: E402
 
 OURS = os.path.join(ROOT, "crates", "parish", "out", "parish")
 ROWS = 60  # of an archive
@@ -62,6 +62,24 @@ class Spoiling:
         lines = lines_of(self.conn, number)
         put_lines(self.conn, number, [*lines[:at], line, *lines[at + 1 :]])
 
+    def side(self, key):
+        return unpack(*self.rows("SELECT tag, text, dst FROM slip_line WHERE id = ?", key)[0])
+
+    def line_of_slip(self, is_meant):
+        """A line of a side of a slip: the key of the side, the line's place and the line; or nothing."""
+        found = [
+            (key, at, line)
+            for (key,) in self.rows("SELECT id FROM slip_line ORDER BY id")
+            for at, line in enumerate(self.side(key))
+            if is_meant(line)
+        ]
+        return self.rng.choice(found) if found else None
+
+    def changed_side(self, key, at, line):
+        lines = self.side(key)
+        row = row_of(0, [*lines[:at], line, *lines[at + 1 :]])
+        self.rows("UPDATE slip_line SET tag = ?, text = ?, dst = ? WHERE id = ?", *row[3:], key)
+
     def number(self):
         return self.rng.randrange(1, self.next + 2)
 
@@ -73,10 +91,10 @@ class Spoiling:
                 taken = self.line(lambda line: line[3] is not None)[2][3]
                 self.changed(*found[:2], (*found[2][:3], self.rng.choice((taken, self.number()))))
             return
-        found = self.one("SELECT id, dst FROM slip_line WHERE dst IS NOT NULL")
+        found = self.line_of_slip(lambda line: line[3] is not None)
         if found:
-            taken = self.one("SELECT dst FROM slip_line WHERE dst IS NOT NULL")[0]
-            self.rows("UPDATE slip_line SET dst = ? WHERE id = ?", self.rng.choice((taken, self.number())), found[0])
+            taken = self.line_of_slip(lambda line: line[3] is not None)[2][3]
+            self.changed_side(*found[:2], (*found[2][:3], self.rng.choice((taken, self.number()))))
 
     def place(self):
         found = self.line(lambda line: line[:2] == (0, "place"))
@@ -140,9 +158,10 @@ class Spoiling:
             self.rows(f"UPDATE slip SET {column} = ? WHERE no = ?", value, *found)
 
     def text_of_slip(self):
-        found = self.one("SELECT id FROM slip_line WHERE tag = 'name'")
+        found = self.line_of_slip(lambda line: line[1] == "name")
         if found:
-            self.rows("UPDATE slip_line SET text = 'Kit' WHERE id = ?", *found)
+            depth, tag, _, number = found[2]
+            self.changed_side(*found[:2], (depth, tag, "Kit", number))
 
     def beside(self):
         """Links and what is looked for are those of the lines that are there now."""

@@ -17,6 +17,7 @@ import shutil
 import sqlite3
 import time
 from collections.abc import Iterable
+from itertools import groupby
 
 from archives import TABLES as ALL_TABLES
 from archives import Folder, lines
@@ -25,7 +26,7 @@ from calendars import anew as date_anew
 from calendars import span_of
 from harness import ROOT, Case, Tools, demand, expect, refused, run, written
 from imports import killed_after
-from packed import PACKS, each_line, row_of
+from packed import PACKS, each_line, row_of, side_row, unpack
 from rooms import visited
 from spoilt import FILE, ROWS
 from spoilt import LATER as SLIPS
@@ -158,38 +159,31 @@ def lines_anew(rows: list) -> list:
     return [(*row[:-2], date_anew(row[-2]), row[-1]) if found else row for found, row in zip(is_date, rows)]
 
 
-def with_dates_anew(rows: list, whole, record) -> list:
-    """The rows of `line` or of `slip_line`. What changes, a whole record or a whole slip, goes behind the others, one
-    after the other: the key of a row is one more than the last that is there."""
-    changed = {}
-    for number, kept in grouped(rows, whole).items():
-        made = sorted(row for lines in grouped(kept, record).values() for row in lines_anew(lines))
-        if made != kept:
-            changed[number] = made
-    first = next(iter(changed), None)
-    last = max((row[0] for row in rows if whole(row) != first), default=0)
-    behind = [row for made in changed.values() for row in made]
-    stay = [row for row in rows if whole(row) not in changed]
-    return stay + [(last + at, *row[1:]) for at, row in enumerate(behind, 1)]
+def sides_anew(rows: list) -> list:
+    """The rows of `slip_line`: of each slip each side in one row, in the order in which they stood."""
+    return [
+        side_row(slip, place, *key, [row[5:] for row in lines_anew(list(lines))])
+        for slip, kept in grouped(rows, lambda row: row[1]).items()
+        for place, (key, lines) in enumerate(groupby(kept, lambda row: (row[2], row[3])))
+    ]
 
 
 def anew(before: dict[str, list]) -> dict[str, list]:
     """What the tables of the first version become: an open import is gone, each date is written as it is today, the
-    lines of each record are in one row, each with a date has its span, each has its links and what it is looked for by,
-    and the version is the second one. All else stays."""
+    lines of each record are in one row, and so are those of each side of a slip, each record with a date has its span,
+    each has its links and what it is looked for by, and the version is the second one. All else stays."""
     opened = {number for number, is_open in before["batch"] if is_open}
     gone = {number for number, _, batch in before["record"] if batch in opened}
     kept = [row for row in before["line"] if row[1] not in gone]
+    of_records = grouped(kept, lambda row: row[1]).items()
+    kept_as = {number: [row[3:] for row in lines_anew(rows)] for number, rows in of_records}
     after = {
         **before,
         "meta": [(one, 2, following, society) for one, _, following, society in before["meta"]],
         "batch": [row for row in before["batch"] if row[0] not in opened],
         "record": [row for row in before["record"] if row[0] not in gone],
-        "line": with_dates_anew(kept, lambda row: row[1], lambda row: row[1]),
-        "slip_line": with_dates_anew(before["slip_line"], lambda row: row[1], lambda row: (row[3], row[2])),
+        "slip_line": sides_anew(before["slip_line"]),
     }
-    lines_of = grouped(after["line"], lambda row: row[1])
-    kept_as = {number: [row[3:] for row in rows] for number, rows in lines_of.items()}
     spans = {number: span_of(given[0][1], given) for number, given in kept_as.items()}
     soughts = {number: sought_of(given) for number, given in kept_as.items()}
     return {
@@ -313,8 +307,9 @@ def each_date(tools):
         for number, (text, *ends) in (pair for first in (10, 50) for pair in enumerate(ALL.values(), first)):
             found = [line[4] for line in each_line(at.rows_of(PACKS)) if (line[0], line[3]) == (number, "date")]
             demand(found == [text] and spans.pop(number, None) == ends, f"{number}: {text!r} is {found}")
-            kept = at.rows_of(f"SELECT text FROM slip_line WHERE no = {number} AND tag = 'date'")
-            demand(number >= 50 or kept == [(text,), (text,)], f"{number}: the slip has {kept}, not {text!r}")
+            sides = at.rows_of(f"SELECT tag, text, dst FROM slip_line WHERE no = {number}")
+            kept = [line[2] for side in sides for line in unpack(*side) if line[1] == "date"]
+            demand(number >= 50 or kept == [text, text], f"{number}: the slip has {kept}, not {text!r}")
         demand(not spans, f"{spans} are no records with a date")
         expect(at.apply(b"u,undo,6\n"), written(b"u,ok,0,0\n"))
         demand(at.rows_of("SELECT dst FROM line WHERE no = 10") == [(5,)], "the events did not go back")

@@ -1,5 +1,6 @@
-"""The lines of a record in one row of `line`, as tests write them and expect them (docs/FORMATS.md, "The tables of an
-archive"): the first line's tag and number in columns, and all else in the packed text.
+"""The lines of a record in one row of `line`, and those of a side of a slip in one of `slip_line`, as tests write them
+and expect them (docs/FORMATS.md, "The tables of an archive"): the first line's tag and number in columns, and all else
+in the packed text.
 
 The lines of a record are written (depth, tag, text, number).
 """
@@ -44,6 +45,11 @@ def row_of(number: int, lines: Sequence[Line]) -> tuple[int, int, int, str, str,
     return (number, 0, depth, tag, pack(lines), named)
 
 
+def side_row(slip: int, place: int, side: int, number: int, lines: Sequence[Line]) -> tuple[int | str | None, ...]:
+    """The row of a side of a slip, the record before the merge (0) or after it (1), at its place among the others."""
+    return ((slip << 32) + place - (1 << 63), slip, side, *row_of(number, lines))
+
+
 def unpack(tag: str, text: str, number: int | None) -> list[Line]:
     """The lines of a row."""
     first, *others, last = text.split("\n")
@@ -85,8 +91,7 @@ def literal(text: str) -> str:
     return "'" + text.replace("'", "''") + "'"
 
 
-def values_of(number: int, lines: Sequence[Line]) -> str:
-    """The row of a record as the VALUES of an INSERT."""
-    values = ["NULL" if one is None else literal(one) if isinstance(one, str) else str(one)
-              for one in row_of(number, lines)]
+def values_of(row: Sequence[int | str | None]) -> str:
+    """A row as the VALUES of an INSERT."""
+    values = ["NULL" if one is None else literal(one) if isinstance(one, str) else str(one) for one in row]
     return "(" + ", ".join(values) + ")"

@@ -12,7 +12,7 @@ from typing import NamedTuple
 
 from beside import link_of, links_of, sought_of
 from calendars import span_of
-from packed import lines_of, put_lines
+from packed import lines_of, put_lines, row_of
 
 # What is in the archive: repository 1, places 2 and 3 (Ashby, Kent), source 4, persons 5, 6 and 7, family 8 of 6 and 7
 # with the child 5, events 9 and 14, citations 10 and 11, entries 12 and 13; of a file the note 15 and person 16.
@@ -90,15 +90,9 @@ class Tables:
         self.run("UPDATE meta SET next = max(next, ?)", number + 1)
 
     def put_slip(self, side: int, number: int, lines: list[Line]) -> None:
-        """What slip 19 has of a number before the merge (0) or after it (1). The rows stay in the order of numbers."""
-        columns = "slip, side, no, pos, depth, tag, text, dst"
-        kept = self.conn.execute(f"SELECT {columns} FROM slip_line ORDER BY id").fetchall()
-        first = next(at for at, row in enumerate(kept) if row[1:3] == (side, number))
-        rows = [row for row in kept if row[1:3] != (side, number)]
-        rows[first:first] = [(19, side, number, place, *line) for place, line in enumerate(lines)]
-        self.run("DELETE FROM slip_line")
-        for row in rows:
-            self.run(f"INSERT INTO slip_line ({columns}) VALUES (?, ?, ?, ?, ?, ?, ?, ?)", *row)
+        """What slip 19 has of a number before the merge (0) or after it (1)."""
+        self.run("UPDATE slip_line SET tag = ?, text = ?, dst = ? WHERE slip = 19 AND side = ? AND no = ?",
+                 *row_of(number, lines)[3:], side, number)
 
 
 class Pair(NamedTuple):

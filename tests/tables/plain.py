@@ -4,7 +4,7 @@ which the program's own tables are compared, row by row and key by key."""
 from __future__ import annotations
 
 from calendars import span_of
-from packed import row_of
+from packed import row_of, side_row
 from rows import Line, written
 
 # what `query` is asked of each table, and the columns that it shows
@@ -20,11 +20,6 @@ QUERIES = {
     "batch": "SELECT no, is_open FROM batch ORDER BY no",
     "meta": "SELECT version, next, society FROM meta",
 }
-
-
-def fields(line: Line) -> tuple[object, ...]:
-    """The last columns of a row that is a stored line."""
-    return (line.depth, line.tag, line.text, line.number)
 
 
 def pair(number: int, named: int) -> int:
@@ -86,10 +81,9 @@ class Tables:
     def merge(self, number: int, keep: int, gone: int, changed: int, old, new) -> None:
         self.slips[number] = (keep, gone, 0)
         self.slip_lines = [row for row in self.slip_lines if row[1] != number]
-        for side, lines in ((0, old), (1, new or ())):
-            for place, line in enumerate(lines):
-                key = following(self.slip_lines)
-                self.slip_lines.append((key, number, side, changed, place, *fields(line)))
+        sides = [(side, lines) for side, lines in ((0, old), (1, new or ())) if lines]
+        self.slip_lines += [side_row(number, place, side, changed, lines) for place, (side, lines) in enumerate(sides)]
+        self.slip_lines.sort()
 
     def undo(self, number: int) -> None:
         keep, gone, _ = self.slips[number]

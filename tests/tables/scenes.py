@@ -4,7 +4,7 @@ from __future__ import annotations
 
 from typing import NamedTuple
 
-from packed import COLUMNS, literal
+from packed import COLUMNS, literal, side_row, values_of
 from plain import QUERIES, Tables, pair
 from records import RECORDS
 from rows import Ask, Case, Line, given, kept, row
@@ -411,9 +411,18 @@ UNREADABLE = "40 BadStored\n"
 LINE = f"INSERT INTO line ({COLUMNS}) VALUES "
 ONE = "INSERT INTO record VALUES (1, 'person', 0)"
 SLIP = "INSERT INTO slip VALUES (3, 1, 2, 0)"
-SLIP_LINE = "INSERT INTO slip_line (slip, side, no, pos, depth, tag) VALUES "
+SIDE = "UPDATE slip_line SET "
+PERSON, REPO = [(0, "person", None, None)], [(0, "repo", None, None)]
 RECEIPT = "INSERT INTO receipt (token, digest, first, count) VALUES "
 DIGEST = "x'" + "07" * 32 + "'"
+
+
+
+def sides(*given: tuple[int, int, list]) -> str:
+    """Sides of slip 3: of each the side, the number and the lines."""
+    rows = (side_row(3, place, *one) for place, one in enumerate(given))
+    return "INSERT INTO slip_line VALUES " + ", ".join(map(values_of, rows))
+
 
 # the tag and the text of a row that are no lines of a record
 UNPACKED = (
@@ -469,19 +478,14 @@ FOREIGN = (
     ("an empty token", (RECEIPT + f"('', {DIGEST}, 1, 1)",), UNREADABLE),
     ("a digest of 31 bytes", (RECEIPT + "('a', x'" + "07" * 31 + "', 1, 1)",), UNREADABLE),
     ("a first number below 0", (RECEIPT + f"('a', {DIGEST}, -1, 1)",), UNREADABLE),
-    ("a slip's new side first", (SLIP, SLIP_LINE + "(3, 1, 1, 0, 0, 'person')"), UNREADABLE),
-    (
-        "a slip's new side of another number",
-        (SLIP, SLIP_LINE + "(3, 0, 1, 0, 0, 'person'), (3, 1, 2, 0, 0, 'person')"),
-        UNREADABLE,
-    ),
-    (
-        "a slip's lines of two numbers in one record",
-        (SLIP, SLIP_LINE + "(3, 0, 1, 0, 0, 'person'), (3, 0, 2, 1, 1, 'name')"),
-        UNREADABLE,
-    ),
-    ("a slip's first line that is deeper", (SLIP, SLIP_LINE + "(3, 0, 1, 0, 1, 'person')"), UNREADABLE),
-    ("a slip's side that is neither", (SLIP, SLIP_LINE + "(3, 2, 1, 0, 0, 'person')"), UNREADABLE),
+    ("a slip's new side first", (SLIP, sides((1, 1, PERSON))), UNREADABLE),
+    ("a slip's new side of another number", (SLIP, sides((0, 1, PERSON), (1, 2, PERSON))), UNREADABLE),
+    ("a slip's side that is neither", (SLIP, sides((2, 1, PERSON))), UNREADABLE),
+    ("a slip's side of no kind", (SLIP, sides((0, 1, [(0, "nobody", None, None)]))), UNREADABLE),
+    ("a slip's side without a packed text", (SLIP, sides((0, 1, PERSON)), SIDE + "text = NULL"), UNREADABLE),
+    ("a slip's side with a text that is none", (SLIP, sides((0, 1, PERSON)), SIDE + "text = ' x'"), UNREADABLE),
+    ("a slip's side of a number below 0", (SLIP, sides((0, 1, PERSON)), SIDE + "no = -1"), UNREADABLE),
+    ("a side's place and depth that are not read", (SLIP, sides((0, 1, PERSON)), SIDE + "pos = -3, depth = 9"), ""),
     (
         "a record of an open batch",
         ("INSERT INTO batch VALUES (1, 1)", "INSERT INTO record VALUES (1, 'person', 1)"),
@@ -493,11 +497,7 @@ FOREIGN = (
         "",
     ),
     ("a slip of no changes", (SLIP,), ""),
-    (
-        "two changes of one number",
-        (SLIP, SLIP_LINE + "(3, 0, 1, 0, 0, 'person'), (3, 0, 1, 0, 0, 'repo'), (3, 1, 1, 0, 0, 'repo')"),
-        "",
-    ),
+    ("two changes of one number", (SLIP, sides((0, 1, PERSON), (0, 1, REPO), (1, 1, REPO))), ""),
 )
 
 # what `version` answers of a store

@@ -25,7 +25,7 @@ use Rattle.record_shapes.specs.Lists.{Ascends, EachOf}
 use Rattle.archive_state.specs.Content.{Content}
 use Rattle.archive_state.specs.Sound.{IsNumber, IsSound}
 use Rattle.archive_state.proofs.Putting.{one_number}
-use Rattle.audit.proofs.Keys.{keys_ascend}
+use Rattle.archive_state.proofs.MapKeys.{keys_ascend}
 use Rattle.record_shapes.proofs.Each.{each_more}
 use Rattle.list_laws.proofs.Numbers.{itself}
 

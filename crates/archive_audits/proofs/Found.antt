@@ -5,7 +5,7 @@ use Rattle.std.specs.FinMap.{get, keys}
 use Rattle.record_kinds.specs.declared.record.Record.{Record}
 use Rattle.record_shapes.specs.Lists.{EachOf}
 use Rattle.archive_state.specs.Content.{Content}
-use Rattle.audit.proofs.Keys.{among_keys, each_among}
+use Rattle.archive_state.proofs.MapKeys.{among_keys, each_among}
 use Rattle.store_tables.specs.Rows.{SoughtRow}
 use Rattle.store_rows.specs.Sought.{IsSought, Sought, sought_at, sought_of}
 use Rattle.archive_audits.specs.Seeking.{HasSought, HaveSoughts, soughts_in}

@@ -37,7 +37,7 @@ use Rattle.record_links.proofs.Stored.{lines_tell}
 use Rattle.record_shapes.specs.Lists.{EachOf}
 use Rattle.records.specs.Stored.{stored}
 use Rattle.archive_state.specs.Content.{Content}
-use Rattle.audit.proofs.Keys.{among_keys, each_among}
+use Rattle.archive_state.proofs.MapKeys.{among_keys, each_among}
 use Rattle.store_tables.specs.Rows.{LinkRow, is_pair}
 use Rattle.store_rows.specs.Links.{AreLinked, has_link}
 use Rattle.archive_audits.specs.Linking.{

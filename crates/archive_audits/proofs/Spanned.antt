@@ -8,7 +8,7 @@ use Rattle.record_shapes.specs.Lists.{EachOf}
 use Rattle.archive_state.specs.Content.{Content}
 use Rattle.date_spans.specs.Spans.{IsSpanOf, date_in}
 use Rattle.date_spans.proofs.KeptSpans.{one_at_most}
-use Rattle.audit.proofs.Keys.{among_keys, each_among}
+use Rattle.archive_state.proofs.MapKeys.{among_keys, each_among}
 use Rattle.store_tables.specs.Rows.{SpanRow}
 use Rattle.store_rows.specs.Spans.{IsSpanned, span_at}
 use Rattle.archive_audits.specs.Spanning.{HasOwn, HaveSpans, first_there, spans_in}

@@ -2,6 +2,7 @@ mod Entries
 pub mod Keyed
 mod Lowest
 pub mod Rising
+pub mod MapKeys
 pub mod Maps
 pub mod Putting
 pub mod Climbing

@@ -43,6 +43,12 @@ pub trait View {
             (λ c. Looked result (λ found. found ≡ map.get c.records number)) }
         ensures counts { CountsOne (failed self.old) (failed self.new) result };
 
+    /// The numbers of all records, ascending.
+    fn record_numbers(&mut self, alloc: Global) -> Result<Vec<u32>, RefusalKind>
+        ensures shows { OnView is_honest shows content self.old self.new
+            (λ c. Looked result (λ found. found.items ≡ map.keys c.records)) }
+        ensures counts { CountsOne (failed self.old) (failed self.new) result };
+
     /// The numbers of the records that name a number, ascending.
     fn referrers(&mut self, alloc: Global, number: u32) -> Result<Vec<u32>, RefusalKind>
         ensures shows { OnView is_honest shows content self.old self.new
@@ -108,6 +114,11 @@ impl View for &State {
             None => Ok(None),
             Some(record) => Ok(Some(copy_record(alloc, record)?)),
         }
+    }
+
+    fn record_numbers(&mut self, alloc: Global) -> Result<Vec<u32>, RefusalKind> {
+        let state: &State = *self;
+        Ok(state.record_numbers(alloc)?)
     }
 
     fn referrers(&mut self, alloc: Global, number: u32) -> Result<Vec<u32>, RefusalKind> {

@@ -1,3 +1,2 @@
-pub mod Keys
 pub mod Broken
 pub mod Whole

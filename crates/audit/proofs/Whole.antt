@@ -11,7 +11,7 @@ use Rattle.sound_records.specs.Parts.{AreWhole}
 use Rattle.audit.specs.Faults.{IsFault, IsNext, KeepSlips, KeepsSlip, KeepsSlipAt}
 use Rattle.audit.specs.declared.fault.Fault.{Fault}
 use Rattle.audit.proofs.Broken.{fault_breaks, none_where}
-use Rattle.audit.proofs.Keys.{among_keys, each_among}
+use Rattle.archive_state.proofs.MapKeys.{among_keys, each_among}
 
 -- the keys are the numbers of all records
 pub has_all : (c : Content) → HasAll (keys c.records) c.records

@@ -7,14 +7,14 @@ use Rattle.record_kinds.specs.declared.record.Record.{Record}
 use Rattle.archive_state.specs.Content.{Records}
 use Rattle.date_spans.specs.Between.{AreAll, IsAmong, IsBetween}
 use Rattle.date_spans.specs.Spans.{IsSpanOf, date_at}
-use Rattle.date_spans.proofs.Keys.{key_of, keys_ascend}
+use Rattle.archive_state.proofs.MapKeys.{among_keys, keys_ascend}
 use Rattle.date_spans.proofs.Picked.{IsPicked, all_picked}
 
 -- what is between days has a record
 has_record : (m : Records) (n : ℕ) (found : Option Record) (span : Span) → get m n ≡ found
     → IsSpanOf (date_at found) (Some span) → IsAmong n (keys m)
 has_record m n None span at is = absurd is
-has_record m n (Some r) span at is = key_of m n r at
+has_record m n (Some r) span at is = among_keys m n r at
 
 pub all_found : (m : Records) (first last : ℤ) (numbers found : List ℕ) → numbers ≡ keys m
     → IsPicked (IsBetween m first last) numbers found → AreAll (IsBetween m first last) found

@@ -38,7 +38,7 @@ use Rattle.date_spans.specs.Gathered.{Adds, AreSpansOf, Looks, date_if}
 use Rattle.date_spans.specs.Meeting.{Meets}
 use Rattle.date_spans.specs.Spans.{AreSpans, IsSpanOf, date_at, date_in}
 use Rattle.date_spans.proofs.DaysMet.{one_span, wider}
-use Rattle.date_spans.proofs.Keys.{key_of}
+use Rattle.archive_state.proofs.MapKeys.{among_keys}
 use Rattle.list_laws.proofs.Numbers.{other_key}
 use Rattle.list_laws.proofs.Booleans.{or_always, or_nothing}
 
@@ -137,7 +137,7 @@ dated_key : (m : Records) (n : ℕ) (found : Option Record) (b : Bool) → get m
 dated_key m n None true at is = refl
 dated_key m n None false at is = refl
 dated_key m n (Some r) true at is = refl
-dated_key m n (Some r) false at is = let wrong : true ≡ false = sym (key_of m n r at) ∙ is in absurd cc
+dated_key m n (Some r) false at is = let wrong : true ≡ false = sym (among_keys m n r at) ∙ is in absurd cc
 
 pub all_spans : (m : Records) (ns : List ℕ) (look : Looks) → ns ≡ keys m → AreSpansOf ns m look → AreSpans m look
 all_spans m ns look are h = λ n.

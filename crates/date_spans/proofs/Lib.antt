@@ -1,4 +1,3 @@
-pub mod Keys
 pub mod Picked
 pub mod Found
 pub mod DaysMet

@@ -2,8 +2,6 @@
 use Rattle.std.proofs.Common.{
   ◌≡◌,
   ℕ,
-  zero,
-  suc,
   List,
   [],
   ◌∷◌,
@@ -19,19 +17,30 @@ use Rattle.std.proofs.Common.{
   ap,
   subst,
   ◌∙◌,
-  arith,
   eqb-true,
 }
-use Rattle.std.proofs.lemmas.List.{append-nil, map-append}
+use Rattle.std.proofs.lemmas.List.{append-nil, append_assoc, map-append}
 use Rattle.std.proofs.lemmas.List.Elements.{filter-append}
 use Rattle.std.proofs.lemmas.Grind.{flat_map-append}
-use Rattle.std.specs.Prelude.{Option, Some, None}
+use Rattle.std.specs.Prelude.{Option, Some, None, fold}
 use Rattle.std.specs.List.{filter, flat_map}
 use Rattle.std.specs.Ordering.{nat_cmp, eq_by_cmp}
 use Rattle.std.specs.Cmp.{nat_cmp_total, unsigned_tied}
-use Rattle.std.specs.FinMap.{FinMap, find, get, insert, get-insert, get-empty}
+use Rattle.std.specs.FinMap.{
+  FinMap,
+  find,
+  get,
+  insert,
+  get-insert,
+  get-empty,
+  keys,
+  entries,
+  entries_sorted,
+  get-entries,
+}
 use Rattle.std.specs.FinMap.Entries.{find-append}
 use Rattle.record_kinds.specs.Model as model
+use Rattle.archive_state.specs.Content.{Records}
 use Rattle.record_kinds.specs.declared.record.Record.{Record}
 use Rattle.record_kinds.specs.declared.record.Record.TheVariants as kind
 use Rattle.record_shapes.specs.Shapes.{Side}
@@ -39,7 +48,7 @@ use Rattle.export_forest.specs.Around.{child_sides, partner_sides}
 use Rattle.export_forest.specs.Names.{letter_at}
 use Rattle.export_forest.specs.Order.{Numbered, is_event_of, is_citation_of, of_rank}
 use Rattle.export_forest.specs.Order as order
-use Rattle.export_index.specs.Adding.{nothing, owned, children_of, partners_of, added, with_found, gathered_from}
+use Rattle.export_index.specs.Adding.{nothing, owned, children_of, partners_of, added, with_found, gathered_of}
 use Rattle.export_index.specs.Index.{Index, IsGathered, letter_with, place_name, numbers}
 use Rattle.export_index.specs.Owned.{numbers_by, sides_by}
 use Rattle.export_index.specs.declared.membership.Membership.{Membership}
@@ -47,7 +56,7 @@ use Rattle.export_index.specs.declared.owned.Owned.{Owned}
 use Rattle.export_index.specs.declared.place_name.PlaceName.{PlaceName}
 use Rattle.export_index.specs.declared.rank.Rank.{Rank}
 use Rattle.export_index.specs.declared.rank.Rank.TheVariants as rank
-use Rattle.export_index.proofs.Upto.{upto, at_number, none_above}
+use Rattle.export_index.proofs.Walked.{Rises, at_number, found_there, none_before}
 
 -- ---- what a record adds to each list
 abbrev put_maybe : {X : Type 0} → ℕ → Option X → FinMap nat_cmp X → FinMap nat_cmp X
@@ -306,9 +315,22 @@ bare = record {
   others = refl;
 }
 
--- what is gathered shows what was read
-pub gathered_is : (at : ℕ → Option Record) (k : ℕ) → IsGathered (upto at k) (gathered_from at k)
-gathered_is at zero = bare
-gathered_is at (suc k) =
-    found_step (upto at k) (suc k) (at (suc k)) (gathered_from at k) (none_above at k (suc k) (omega arith))
-    (gathered_is at k)
+-- what is gathered of more entries, whose numbers ascend, shows these too
+gathered_on : (at : ℕ → Option Record) (front es : List Numbered) (i : Index) → Rises (front ++ es)
+    → ((q : ℕ) → at q ≡ find nat_cmp q (front ++ es)) → IsGathered front i
+    → IsGathered (front ++ es) (fold (λ (x : Index) n. with_found n (at n) x) i (map (λ (e : Numbered). e.0) es))
+gathered_on at front [] i rises agrees h = subst (λ (l : List Numbered). IsGathered l i) (sym (append-nil front)) h
+gathered_on at front (e ∷ es) i rises agrees h =
+    let here : at e.0 ≡ Some e.1 = agrees e.0 ∙ found_there front e es rises in
+    let step : IsGathered (front ++ e ∷ []) (with_found e.0 (at e.0) i) =
+    subst (λ (o : Option Record). IsGathered (front ++ at_number e.0 o) (with_found e.0 (at e.0) i)) here
+    (found_step front e.0 (at e.0) i (none_before front e es rises) h) in
+    let same : (front ++ e ∷ []) ++ es ≡ front ++ e ∷ es = append_assoc front (e ∷ []) es in
+    subst (λ (l : List Numbered). IsGathered l
+    (fold (λ (x : Index) n. with_found n (at n) x) (with_found e.0 (at e.0) i) (map (λ (x : Numbered). x.0) es))) same
+    (gathered_on at (front ++ e ∷ []) es (with_found e.0 (at e.0) i) (subst Rises (sym same) rises)
+    (λ q. agrees q ∙ ap (find nat_cmp q) (sym same)) step)
+
+-- what is gathered of all records shows all
+pub gathered_is : (m : Records) → IsGathered (entries m) (gathered_of (get m) (keys m))
+gathered_is m = gathered_on (get m) [] (entries m) nothing (entries_sorted m) (get-entries m) bare

@@ -1,4 +1,4 @@
 mod Growing
 pub mod Places
-pub mod Upto
+pub mod Walked
 pub mod Whole

@@ -1,13 +1,10 @@
 -- What is gathered of a whole archive is its index.
-use Rattle.std.proofs.Common.{◌≡◌, ℕ, ◌-◌, ◌≤◌, ◌<◌, List, map, sym, ap, subst, ◌∙◌, arith}
-use Rattle.std.specs.Prelude.{Some}
-use Rattle.std.specs.FinMap.{get, entries, get-entries}
-use Rattle.record_kinds.specs.declared.record.Record.{Record}
-use Rattle.archive_state.specs.Content.{Content, Records}
-use Rattle.archive_state.specs.Sound.{IsSound}
+use Rattle.std.proofs.Common.{◌≡◌, ℕ, List, map, sym, ap, subst, ◌∙◌}
+use Rattle.std.specs.FinMap.{get, keys, entries, get-entries}
+use Rattle.archive_state.specs.Content.{Records}
 use Rattle.export_forest.specs.Names.{letter_at, name_of, name_with}
 use Rattle.export_forest.specs.Order.{Numbered, of_rank}
-use Rattle.export_index.specs.Adding.{gathered_from}
+use Rattle.export_index.specs.Adding.{gathered_of}
 use Rattle.export_index.specs.Arranging.{IsArrangement}
 use Rattle.export_index.specs.Index.{Index, IsGathered, IsIndexOf, letter_in, numbers, numbers_in, place_in_export}
 use Rattle.export_index.specs.Shown.{names_in}
@@ -16,7 +13,6 @@ use Rattle.export_index.specs.declared.owned.Owned.{Owned}
 use Rattle.export_index.specs.declared.rank.Rank.{Rank}
 use Rattle.export_index.specs.declared.rank.Rank.TheVariants as rank
 use Rattle.export_index.proofs.Growing.{gathered_is}
-use Rattle.export_index.proofs.Upto.{upto_is}
 
 -- the order of the owners does not matter
 arranged_is : (es : List Numbered) (i j : Index) → IsGathered es i → IsArrangement i j → IsIndexOf es j
@@ -46,25 +42,10 @@ arranged_is es i j h a =
       };
     }
 
-all_numbers : (c : Content) → IsSound c → (k : ℕ) → k ≡ c.next - 1 → (n : ℕ) (r : Record) → get c.records n ≡ Some r
-    → (0 < n) × (n ≤ k)
-all_numbers c s k is n r e =
-    let in_range = s.rules.numbered n r e in
-    let first : 0 < n = in_range.0 in
-    let last : n < c.next = in_range.1 in
-    (first, omega arith)
-
-last_is : (n next k : ℕ) → n ≡ next → next ≤ 4294967296 → (n ≤ 4294967296 → k ≡ n - 1) → k ≡ next - 1
-last_is n next k same bound is = let last : k ≡ n - 1 = is (omega arith) in omega arith
-
-pub index_is : (c : Content) (i j : Index) (k n : ℕ) → IsSound c → n ≡ c.next → (n ≤ 4294967296 → k ≡ n - 1)
-    → i ≡ gathered_from (get c.records) k → IsArrangement i j → IsIndexOf (entries c.records) j
-index_is c i j k n s next is same a =
-    let last = last_is n c.next k next s.bounded is in
-    arranged_is (entries c.records) i j
-    (subst (λ (x : Index). IsGathered (entries c.records) x) (sym same)
-    (subst (λ (es : List Numbered). IsGathered es (gathered_from (get c.records) k))
-    (upto_is c.records k (all_numbers c s k last)) (gathered_is (get c.records) k))) a
+pub index_is : (m : Records) (i j : Index) → i ≡ gathered_of (get m) (keys m) → IsArrangement i j
+    → IsIndexOf (entries m) j
+index_is m i j same a = arranged_is (entries m) i j
+    (subst (λ (x : Index). IsGathered (entries m) x) (sym same) (gathered_is m)) a
 
 -- the names of an index are those of the archive
 pub names_are : (m : Records) (i : Index) → IsGathered (entries m) i → (n : ℕ) → names_in i n ≡ name_of m n

@@ -1,5 +1,5 @@
 -- How an index grows by one record.
-use Rattle.std.specs.Prelude.{ℕ, zero, suc, ◌∷◌, [], ◌++◌, List, map, Option, Some, None}
+use Rattle.std.specs.Prelude.{ℕ, ◌∷◌, [], ◌++◌, List, map, fold, Option, Some, None}
 use Rattle.std.specs.FinMap.{empty, insert}
 use Rattle.record_kinds.specs.Model as model
 use Rattle.record_kinds.specs.declared.record.Record.{Record}
@@ -96,7 +96,6 @@ abbrev pub with_found : ℕ → Option Record → Index → Index
 with_found n None i = i
 with_found n (Some r) i = added n r i
 
--- with what stands at the numbers from 1 on, so many of them
-abbrev pub gathered_from : (ℕ → Option Record) → ℕ → Index
-gathered_from at zero = nothing
-gathered_from at (suc k) = with_found (suc k) (at (suc k)) (gathered_from at k)
+-- with what stands at these numbers, one after the other
+abbrev pub gathered_of : (ℕ → Option Record) → List ℕ → Index
+gathered_of at = fold (λ i n. with_found n (at n) i) nothing

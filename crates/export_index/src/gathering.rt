@@ -1,8 +1,7 @@
 //! All records read once.
 
-ghost use Rattle.std.specs.Prelude.{◌≡◌, ◌≤◌, ◌-◌, IfOk, OnOk};
+ghost use Rattle.std.specs.Prelude.{◌≡◌, IfOk, OnOk};
 ghost use Rattle.std.specs.FinMap as map;
-ghost use Rattle.archive_state.specs.Sound.{IsSound};
 ghost use Rattle.archive_view.specs.Looks.{CountsFailures, Looked};
 ghost use Rattle.archive_view.specs.Views.{On};
 ghost use Rattle.export_index.specs.Adding as adding;
@@ -13,45 +12,29 @@ use archive_view::View;
 use records::{Record, RefusalKind};
 use std::alloc::{AllocError, Global};
 
-/// How many numbers there are from 0 on.
-const NUMBERS: u64 = 4_294_967_296;
-
-/// The index of all records, each of which is read once. Every number below the next one is asked for, since a view
-/// does not say which numbers have a record: so many calls are made, also where few records are left.
+/// The index of all records, each of which is read once.
 pub fn gathered<V: View>(alloc: Global, view: &mut V) -> Result<Index, RefusalKind>
     ensures shows { On V.View view.old view.new
-        (λ c. Looked result (λ index. IsSound c → IsIndexOf (map.entries c.records) index)) }
+        (λ c. Looked result (λ index. IsIndexOf (map.entries c.records) index)) }
     ensures arranged { IfOk result (λ index. IsArranged index) }
     ensures counts { CountsFailures (V.failed view.old) (V.failed view.new) result }
 {
-    let next = view.next(alloc)?;
-    let mut index = read_all(alloc, view, last_number(next))?;
+    let numbers = view.record_numbers(alloc)?;
+    let mut index = read_all(alloc, view, &numbers)?;
     index.arrange()?;
     Ok(index)
 }
 
-/// The number before the next one.
-fn last_number(next: u64) -> u32
-    ensures { next ≤ 4294967296 → result ≡ next - 1 }
-{
-    let last = next.saturating_sub(1);
-    if last < NUMBERS {
-        last as u32
-    } else {
-        u32::MAX
-    }
-}
-
-/// What is shown by the records of the numbers from 1 to the last.
-#[tactic(auto, using(crate::proofs::Upto::one_more))]
-fn read_all<V: View>(alloc: Global, view: &mut V, last: u32) -> Result<Index, RefusalKind>
+/// What is shown by the records of these numbers.
+#[tactic(auto, using(crate::proofs::Walked::one_more, crate::proofs::Walked::all_walked))]
+fn read_all<V: View>(alloc: Global, view: &mut V, numbers: &[u32]) -> Result<Index, RefusalKind>
     ensures shows { On V.View view.old view.new
-        (λ c. Looked result (λ index. index ≡ adding.gathered_from (map.get c.records) last)) }
+        (λ c. Looked result (λ index. index ≡ adding.gathered_of (map.get c.records) numbers.now)) }
     ensures counts { CountsFailures (V.failed view.old) (V.failed view.new) result }
 {
     let mut index = Index::new(alloc);
-    'numbers: for before in 0..last {
-        read_at(alloc, view, before + 1, &mut index)?;
+    'numbers: for number in numbers {
+        read_at(alloc, view, *number, &mut index)?;
     }
     Ok(index)
 }

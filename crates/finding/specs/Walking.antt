@@ -1,5 +1,5 @@
 -- The same, a number at a time. No clause of a public call names it.
-use Rattle.std.specs.Prelude.{ℕ, zero, suc, ◌+◌, nat_lt, if◌then◌else◌, List, [], ◌++◌, length, Option, Some, None}
+use Rattle.std.specs.Prelude.{ℕ, nat_lt, if◌then◌else◌, List, [], ◌++◌, fold, length, Option, Some, None}
 use Rattle.record_kinds.specs.declared.record.Record.{Record}
 use Rattle.finding.specs.Lines.{line_of}
 use Rattle.finding.specs.declared.wanted.Wanted.{Wanted}
@@ -13,7 +13,10 @@ line_at w n (Some r) = line_of w (n, r)
 abbrev pub with_found : Wanted → ℕ → ℕ → Option Record → List (ℕ × List ℕ) → List (ℕ × List ℕ)
 with_found w limit n found lines = if nat_lt (length lines) limit then lines ++ line_at w n found else lines
 
--- the lines of so many numbers after one
-abbrev pub walked : (ℕ → Option Record) → Wanted → ℕ → ℕ → ℕ → List (ℕ × List ℕ)
-walked at w limit after zero = []
-walked at w limit after (suc k) = with_found w limit (after + suc k) (at (after + suc k)) (walked at w limit after k)
+-- the same, where the number is after another
+abbrev pub with_later : Wanted → ℕ → ℕ → ℕ → Option Record → List (ℕ × List ℕ) → List (ℕ × List ℕ)
+with_later w after limit n found lines = if nat_lt after n then with_found w limit n found lines else lines
+
+-- the lines of those of these numbers that are after one
+abbrev pub walked : (ℕ → Option Record) → Wanted → ℕ → ℕ → List ℕ → List (ℕ × List ℕ)
+walked at w after limit = fold (λ lines n. with_later w after limit n (at n) lines) []

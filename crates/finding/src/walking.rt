@@ -1,8 +1,7 @@
 //! The lines of the records that are wanted, of which each is read once.
 
-ghost use Rattle.std.specs.Prelude.{◌≡◌, ◌≤◌, ◌<◌, ◌+◌, ◌-◌, ◌++◌, OnOk, Some};
+ghost use Rattle.std.specs.Prelude.{◌≡◌, ◌++◌, OnOk, Some};
 ghost use Rattle.std.specs.FinMap as map;
-ghost use Rattle.archive_state.specs.Sound.{IsSound};
 ghost use Rattle.archive_view.specs.Looks.{CountsFailures, Looked};
 ghost use Rattle.archive_view.specs.Views.{On};
 ghost use Rattle.finding.specs.Lines as lines;
@@ -14,12 +13,8 @@ use archive_view::View;
 use records::{Record, RefusalKind};
 use std::alloc::{AllocError, Global};
 
-/// How many numbers there are from 0 on.
-const NUMBERS: u64 = 4_294_967_296;
-
 /// The lines of the first so many records after a number that are wanted, by number. Where there are as many as were
-/// asked for, there may be more after the last of them. A record is read at a time; every number below the next one is
-/// asked for, since a view does not say which numbers have a record. Nothing is changed.
+/// asked for, there may be more after the last of them. A record is read at a time. Nothing is changed.
 pub fn page<V: View>(
     alloc: Global,
     view: &mut V,
@@ -28,46 +23,52 @@ pub fn page<V: View>(
     limit: usize,
 ) -> Result<Vec<Line>, RefusalKind>
     ensures shows { On V.View view.old view.new (λ c. Looked result
-        (λ found. IsSound c → found.items ≡ lines.page wanted.now after limit (map.entries c.records))) }
+        (λ found. found.items ≡ lines.page wanted.now after limit (map.entries c.records))) }
     ensures counts { CountsFailures (V.failed view.old) (V.failed view.new) result }
 {
-    let next = view.next(alloc)?;
-    let count = last_number(next).saturating_sub(after);
-    walked(alloc, view, wanted, after, limit, count)
+    let numbers = view.record_numbers(alloc)?;
+    walked(alloc, view, wanted, after, limit, &numbers)
 }
 
-/// The number before the next one.
-fn last_number(next: u64) -> u32
-    ensures { next ≤ 4294967296 → result ≡ next - 1 }
-{
-    let last = next.saturating_sub(1);
-    if last < NUMBERS {
-        last as u32
-    } else {
-        u32::MAX
-    }
-}
-
-/// The lines of so many numbers after one.
-#[tactic(auto, using(crate::proofs::Walked::one_more))]
+/// The lines of those of these numbers that are after one.
+#[tactic(auto, using(crate::proofs::Walked::one_more, crate::proofs::Walked::all_walked))]
 fn walked<V: View>(
     alloc: Global,
     view: &mut V,
     wanted: &Wanted,
     after: u32,
     limit: usize,
-    count: u32,
+    numbers: &[u32],
 ) -> Result<Vec<Line>, RefusalKind>
-    requires { after + count < 4294967296 }
     ensures shows { On V.View view.old view.new (λ c. Looked result
-        (λ found. found.items ≡ walking.walked (map.get c.records) wanted.now limit after count)) }
+        (λ found. found.items ≡ walking.walked (map.get c.records) wanted.now after limit numbers.now)) }
     ensures counts { CountsFailures (V.failed view.old) (V.failed view.new) result }
 {
     let mut lines = Vec::new(alloc);
-    'numbers: for before in 0..count {
-        read_at(alloc, view, wanted, limit, after + (before + 1), &mut lines)?;
+    'numbers: for number in numbers {
+        read_after(alloc, view, wanted, after, limit, *number, &mut lines)?;
     }
     Ok(lines)
+}
+
+/// Adds the line of what stands at a number, where it is after another.
+fn read_after<V: View>(
+    alloc: Global,
+    view: &mut V,
+    wanted: &Wanted,
+    after: u32,
+    limit: usize,
+    number: u32,
+    lines: &mut Vec<Line>,
+) -> Result<(), RefusalKind>
+    ensures shows { On V.View view.old view.new (λ c. Looked result (λ _. lines.new.items
+        ≡ walking.with_later wanted.now after limit number (map.get c.records number) lines.old.items)) }
+    ensures counts { CountsFailures (V.failed view.old) (V.failed view.new) result }
+{
+    if number <= after {
+        return Ok(());
+    }
+    read_at(alloc, view, wanted, limit, number, lines)
 }
 
 /// Adds the line of what stands at a number, unless there are lines enough.

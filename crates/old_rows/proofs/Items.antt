@@ -39,11 +39,11 @@ use Rattle.records_anew.specs.Anew.{anew}
 use Rattle.records_anew.specs.Old.{OldRecord, WasKeptAs}
 use Rattle.records_anew.specs.Reading as reading
 use Rattle.records_anew.proofs.OneOld.{one_old}
-use Rattle.store_tables.specs.Rows.{SlipRow}
+use Rattle.store_tables.specs.Rows.{SlipRow, SlipSide}
 use Rattle.store_rows.specs.Sides.{SideLine}
 use Rattle.store_rows.specs.Sought.{sought_of}
 use Rattle.old_rows.specs.Reading.{AreChangesAnewOf, AreRecordsAnew, AreSlipsAnew}
-use Rattle.old_rows.specs.Renewing.{Anew, IsAnewOf, RecordAnew, SideAnew, SlipAnew}
+use Rattle.old_rows.specs.Renewing.{Anew, IsAnewOf, RecordAnew, SlipAnew}
 use Rattle.list_laws.proofs.Numbers.{same_self}
 
 -- ---- lists
@@ -83,16 +83,14 @@ taken xs i x low at =
 
 -- ---- a record
 pub read_is : (lines : List (ℕ × Label)) (r : Record) (a : Anew) → reading.IsAnewOf lines r → a.lines ≡ stored r
-    → IsSpanOf (date_in r) a.span → a.sought ≡ sought_of r → (a.has_changed ≡ false → lines ≡ stored r)
-    → IsAnewOf lines a
-read_is lines r a found kept spanned sought same =
+    → IsSpanOf (date_in r) a.span → a.sought ≡ sought_of r → IsAnewOf lines a
+read_is lines r a found kept spanned sought =
     let is : (o : OldRecord) → WasKeptAs lines o → r ≡ anew o = λ o was. found.2 ∙ ap anew
     (one_old lines found.0 o found.1 was) in
     record {
       kept = λ o was. kept ∙ ap stored (is o was);
       spanned = λ o was. subst (λ (x : Record). IsSpanOf (date_in x) a.span) (is o was) spanned;
       sought = λ o was. sought ∙ ap sought_of (is o was);
-      same = λ e. kept ∙ sym (same e);
     }
 
 -- ---- records
@@ -137,7 +135,7 @@ module _ (lines : ℕ → List SideLine) where
   pub no_slips : AreSlipsAnew lines [] []
   no_slips = record { each = tt; all = λ n e. absurd cc }
 
-  pub one_slip : (rows : List SlipRow) (r : SlipRow) (found more : List SlipAnew) (n : ℕ) (sides : List SideAnew)
+  pub one_slip : (rows : List SlipRow) (r : SlipRow) (found more : List SlipAnew) (n : ℕ) (sides : List SlipSide)
       → more ≡ found ++ record { number = n; sides = sides } ∷ [] → AreChangesAnewOf (lines n) sides → r.no ≡ n
       → AreSlipsAnew lines rows found → AreSlipsAnew lines (rows ++ r ∷ []) more
   one_slip rows r found more n sides pushed is at was =

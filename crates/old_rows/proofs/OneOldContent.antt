@@ -92,7 +92,8 @@ seen_old rows other before alike old = record {
   receipts = old.receipts ∙ ap receipts_in (sym alike.receipts);
   slips = λ n. seen_slip n (slip_row_at n rows.slips) (slip_row_at n other.slips) (slip_lines_of n rows)
       (slip_lines_of n other) (get before.slips n) (ap (slip_row_at n) alike.slips)
-      (λ i. slip_lines_of n (record rows { slip_lines = alike.slip_lines i })) (old.slips n);
+      (λ i. slip_lines_of n (record rows { slip_lines = alike.slip_lines i; slip_packs = alike.slip_packs i }))
+      (old.slips n);
 }
 
 pub seen_anew : (rows other : Rows) (c : Content) → AreSeenAlike rows other → MeansAnew rows c → MeansAnew other c

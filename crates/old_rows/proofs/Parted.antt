@@ -26,12 +26,11 @@ use Rattle.std.proofs.Common.{
   append_assoc,
   append-nil,
 }
-use Rattle.std.specs.Prelude.{◌==◌, ◌||◌, slice_get, IfSome, option_map}
-use Rattle.std.specs.List.{flat_map, list_all, list_any}
+use Rattle.std.specs.Prelude.{◌==◌, slice_get, IfSome, option_map}
+use Rattle.std.specs.List.{flat_map, list_all}
 use Rattle.std.proofs.lemmas.Bool.{and_parts, eqb-true}
 use Rattle.std.proofs.lemmas.Grind.{flat_map-append}
-use Rattle.std.proofs.lemmas.List.{map-append, drop-map, take-map}
-use Rattle.std.proofs.lemmas.List.Folds.{list_any-append}
+use Rattle.std.proofs.lemmas.List.{drop-map, take-map}
 use Rattle.stored_lines.specs.Line.{Label}
 use Rattle.records.specs.Stored.{stored}
 use Rattle.record_shapes.specs.Lists.{EachOf}
@@ -39,6 +38,7 @@ use Rattle.records_anew.specs.Anew.{OldChange, anew, change_anew}
 use Rattle.records_anew.specs.Old.{IsOld, OldRecord, tree_with}
 use Rattle.records_anew.specs.Reading.{WasKeptAsNone}
 use Rattle.records_anew.proofs.OneOld.{one_old}
+use Rattle.store_tables.specs.Rows.{SlipSide, lines_in_side}
 use Rattle.store_rows.specs.Meaning.{change_lines, new_side, side_lines}
 use Rattle.store_rows.specs.Sides.{SideLine, begins_side, first_length, is_of, side_lines_in}
 use Rattle.store_rows.proofs.SidesParted.{IsPiece, after_same, first_same, stored_back, tree_piece}
@@ -61,12 +61,10 @@ use Rattle.old_rows.specs.Reading.{
   WasSide,
   WereNoChanges,
   WereNoSides,
-  lines_anew,
   new_side_lines,
   old_side_lines,
 }
-use Rattle.old_rows.specs.Renewing.{Anew, IsAnewOf, SideAnew}
-use Rattle.list_laws.proofs.Booleans.{neither}
+use Rattle.old_rows.specs.Renewing.{Anew, IsAnewOf}
 
 abbrev Row : Type 0
 Row = ℕ × SideLine
@@ -192,38 +190,29 @@ same_head (r ∷ rows) b n (l ∷ ls) s e f =
 
 pub one_side_anew : (rows : List Row) (b : Bool) (n : ℕ) (ls : List (ℕ × Label)) (a : Anew)
     → ls ≡ map (λ (r : Row). r.1.1.1) rows → side_lines_in rows ≡ side_lines b n ls → IsAnewOf ls a
-    → IsSideAnewOf (side_lines_in rows) (record { is_new = b; number = n; anew = a })
-one_side_anew rows b n ls a stored_is of_side is = record {
-  kept = λ s was f.
-      let head = same_head rows b n ls s of_side f in
-      let lines : a.lines ≡ stored (anew s.old) = is.kept s.old
-      (record { is = was; lines = lines_back rows ls s stored_is f }) in
-      λ i. side_lines (head.0 i) (head.1 i) (lines i);
-  same = λ e. ap (side_lines b n) (is.same e) ∙ sym of_side;
-}
+    → IsSideAnewOf (side_lines_in rows) (b, (n, a.lines))
+one_side_anew rows b n ls a stored_is of_side is s was f =
+    let head = same_head rows b n ls s of_side f in
+    let lines : a.lines ≡ stored (anew s.old) = is.kept s.old
+    (record { is = was; lines = lines_back rows ls s stored_is f }) in
+    λ i. side_lines (head.0 i) (head.1 i) (lines i)
 
 -- ---- sides, one after the other
 -- whatever sides the lines were of, some of them are read, and the others are those of what is left
-pub record IsPartly (lines rest : List SideLine) (done : List SideAnew) : Type 0 where
+pub record IsPartly (lines rest : List SideLine) (done : List SlipSide) : Type 0 where
   pub kept : (ss : List OldSide) → EachOf WasSide ss → lines ≡ flat_map old_side_lines ss
       → (left : List OldSide) × EachOf WasSide left × (rest ≡ flat_map old_side_lines left)
-      × (flat_map new_side_lines ss ≡ flat_map lines_anew done ++ flat_map new_side_lines left)
-  pub same : list_any (λ (s : SideAnew). s.anew.has_changed) done ≡ false
-      → flat_map lines_anew done ++ rest ≡ lines
+      × (flat_map new_side_lines ss ≡ flat_map lines_in_side done ++ flat_map new_side_lines left)
   pub none : WereNoSides rest → WereNoSides lines
 
-pub nothing_read : (lines : List SideLine) (done : List SideAnew) → done ≡ [] → IsPartly lines lines done
+pub nothing_read : (lines : List SideLine) (done : List SlipSide) → done ≡ [] → IsPartly lines lines done
 nothing_read lines done is = subst (IsPartly lines lines) (sym is)
-    (record { kept = λ ss were e. (ss, were, e, refl); same = λ _. refl; none = λ none. none })
+    (record { kept = λ ss were e. (ss, were, e, refl); none = λ none. none })
 
-flat_one : (done more : List SideAnew) (s : SideAnew) → more ≡ done ++ s ∷ []
-    → flat_map lines_anew more ≡ flat_map lines_anew done ++ lines_anew s
-flat_one done more s pushed = ap (flat_map lines_anew) pushed ∙ flat_map-append lines_anew done (s ∷ [])
-    ∙ ap (λ (x : List SideLine). flat_map lines_anew done ++ x) (append-nil (lines_anew s))
-
-or_end : (b : Bool) → (b || false) ≡ false → b ≡ false
-or_end true e = absurd cc
-or_end false e = refl
+flat_one : (done more : List SlipSide) (s : SlipSide) → more ≡ done ++ s ∷ []
+    → flat_map lines_in_side more ≡ flat_map lines_in_side done ++ lines_in_side s
+flat_one done more s pushed = ap (flat_map lines_in_side) pushed ∙ flat_map-append lines_in_side done (s ∷ [])
+    ∙ ap (λ (x : List SideLine). flat_map lines_in_side done ++ x) (append-nil (lines_in_side s))
 
 pub no_others : (rows others : List Row) (n : ℕ) → 0 < length rows → n ≡ first_length (side_lines_in rows)
     → others ≡ drop n rows → WereNoSides (side_lines_in others) → WereNoSides (side_lines_in rows)
@@ -241,14 +230,15 @@ no_first rows first n some long e none_first (s ∷ ss) shallow f =
     ∙ sym (take-map (λ (r : Row). r.1) (first_length (side_lines_in rows)) rows)
     ∙ first_same begins_side old_side_lines old_piece (side_lines_in rows) s ss f)
 
-pub one_read : (lines : List SideLine) (rows first others : List Row) (n : ℕ) (done more : List SideAnew)
-    (s : SideAnew) → 0 < length rows → n ≡ first_length (side_lines_in rows) → first ≡ take n rows
+pub one_read : (lines : List SideLine) (rows first others : List Row) (n : ℕ) (done more : List SlipSide)
+    (s : SlipSide) → 0 < length rows → n ≡ first_length (side_lines_in rows) → first ≡ take n rows
     → others ≡ drop n rows → rows ≡ first ++ others → more ≡ done ++ s ∷ [] → IsSideAnewOf (side_lines_in first) s
     → IsPartly lines (side_lines_in rows) done → IsPartly lines (side_lines_in others) more
 one_read lines rows first others n done more s some long fst snd parts pushed is way =
     let next : (left : List OldSide) → EachOf WasSide left → side_lines_in rows ≡ flat_map old_side_lines left
     → (after : List OldSide) × EachOf WasSide after × (side_lines_in others ≡ flat_map old_side_lines after)
-    × (flat_map new_side_lines left ≡ lines_anew s ++ flat_map new_side_lines after) = λ left were e. go left were e in
+    × (flat_map new_side_lines left ≡ lines_in_side s ++ flat_map new_side_lines after) =
+    λ left were e. go left were e in
     record {
       kept = λ ss were e.
           let came = way.kept ss were e in
@@ -256,28 +246,16 @@ one_read lines rows first others n done more s some long fst snd parts pushed is
             step.0,
             step.1,
             step.2,
-            came.3 ∙ ap (λ (x : List SideLine). flat_map lines_anew done ++ x) step.3
-                ∙ sym (append_assoc (flat_map lines_anew done) (lines_anew s) (flat_map new_side_lines step.0))
+            came.3 ∙ ap (λ (x : List SideLine). flat_map lines_in_side done ++ x) step.3
+                ∙ sym (append_assoc (flat_map lines_in_side done) (lines_in_side s) (flat_map new_side_lines step.0))
                 ∙ ap (λ (x : List SideLine). x ++ flat_map new_side_lines step.0) (sym (flat_one done more s pushed)),
           );
-      same = λ e.
-          let both = neither (list_any (λ (x : SideAnew). x.anew.has_changed) done)
-          (list_any (λ (x : SideAnew). x.anew.has_changed) (s ∷ []))
-          (sym (list_any-append (λ (x : SideAnew). x.anew.has_changed) done (s ∷ []))
-          ∙ ap (list_any (λ (x : SideAnew). x.anew.has_changed)) (sym pushed) ∙ e) in
-          ap (λ (x : List SideLine). x ++ side_lines_in others) (flat_one done more s pushed)
-          ∙ append_assoc (flat_map lines_anew done) (lines_anew s) (side_lines_in others)
-          ∙ ap (λ (x : List SideLine). flat_map lines_anew done ++ (x ++ side_lines_in others))
-          (is.same (or_end s.anew.has_changed both.1))
-          ∙ ap (λ (x : List SideLine). flat_map lines_anew done ++ x)
-          (sym (map-append (λ (r : Row). r.1) first others) ∙ ap side_lines_in (sym parts))
-          ∙ way.same both.0;
       none = λ none_else. way.none (no_others rows others n some long snd none_else);
     }
   where
     go : (left : List OldSide) → EachOf WasSide left → side_lines_in rows ≡ flat_map old_side_lines left
         → (after : List OldSide) × EachOf WasSide after × (side_lines_in others ≡ flat_map old_side_lines after)
-        × (flat_map new_side_lines left ≡ lines_anew s ++ flat_map new_side_lines after)
+        × (flat_map new_side_lines left ≡ lines_in_side s ++ flat_map new_side_lines after)
     go [] were e = absurd (some_lines rows some e)
     go (o ∷ os) were e =
         let front : side_lines_in first ≡ old_side_lines o = ap side_lines_in (fst ∙ ap (λ k. take k rows) long)
@@ -287,7 +265,7 @@ one_read lines rows first others n done more s some long fst snd parts pushed is
         (snd ∙ ap (λ k. drop k rows) long)
         ∙ sym (drop-map (λ (r : Row). r.1) (first_length (side_lines_in rows)) rows)
         ∙ after_same begins_side old_side_lines old_piece (side_lines_in rows) o os e in
-        (os, were.1, back, ap (λ (x : List SideLine). x ++ flat_map new_side_lines os) (sym (is.kept o were.0 front)))
+        (os, were.1, back, ap (λ (x : List SideLine). x ++ flat_map new_side_lines os) (sym (is o were.0 front)))
 
 -- all are read
 none_left : (left : List OldSide) → [] ≡ flat_map old_side_lines left → left ≡ []
@@ -302,26 +280,20 @@ no_rows : (rows : List Row) → true ≡ (length rows == 0) → rows ≡ []
 no_rows [] e = refl
 no_rows (r ∷ rs) e = absurd (omega (arith, eqb-true (length (r ∷ rs)) 0 (sym e)))
 
-pub all_read : (lines : List SideLine) (rows : List Row) (done : List SideAnew) → true ≡ (length rows == 0)
+pub all_read : (lines : List SideLine) (rows : List Row) (done : List SlipSide) → true ≡ (length rows == 0)
     → IsPartly lines (side_lines_in rows) done → AreSidesAnewOf lines done
-all_read lines rows done is_empty way = let none = no_rows rows is_empty in record {
-  kept = λ ss were e.
-      let came = way.kept ss were e in
-      let left : came.0 ≡ [] = none_left came.0 (ap side_lines_in (sym none) ∙ came.2) in
-      sym (came.3 ∙ ap (λ (x : List OldSide). flat_map lines_anew done ++ flat_map new_side_lines x) left
-      ∙ append-nil (flat_map lines_anew done));
-  same = λ e. sym (append-nil (flat_map lines_anew done))
-      ∙ ap (λ (x : List Row). flat_map lines_anew done ++ side_lines_in x) (sym none) ∙ way.same e;
-}
+all_read lines rows done is_empty way ss were e =
+    let none = no_rows rows is_empty in
+    let came = way.kept ss were e in
+    let left : came.0 ≡ [] = none_left came.0 (ap side_lines_in (sym none) ∙ came.2) in
+    sym (came.3 ∙ ap (λ (x : List OldSide). flat_map lines_in_side done ++ flat_map new_side_lines x) left
+    ∙ append-nil (flat_map lines_in_side done))
 
 -- ---- changes
-pub changes_read : (lines : List SideLine) (sides : List SideAnew) → AreSidesAnewOf lines sides
+pub changes_read : (lines : List SideLine) (sides : List SlipSide) → AreSidesAnewOf lines sides
     → AreChangesAnewOf lines sides
-changes_read lines sides are = record {
-  kept = λ cs were e. are.kept (flat_map old_sides cs) (were_sides cs were) (e ∙ were_of_sides cs)
-      ∙ sym (are_of_sides cs);
-  same = are.same;
-}
+changes_read lines sides are cs were e = are (flat_map old_sides cs) (were_sides cs were) (e ∙ were_of_sides cs)
+    ∙ sym (are_of_sides cs)
 
 pub no_changes : (lines : List SideLine) → WereNoSides lines → WereNoChanges lines
 no_changes lines none cs were shallow e =

@@ -31,7 +31,7 @@ use Rattle.archive_state.specs.Slips.{Slip}
 use Rattle.archive_state.specs.declared.slip.Change.{Change}
 use Rattle.records_anew.specs.Anew.{IsAnew, OldChange, OldContent, OldSlip, anew, change_anew, slip_anew}
 use Rattle.records_anew.specs.Old.{OldRecord}
-use Rattle.store_tables.specs.Reading.{ReadRows, read_line, read_of, read_pack, read_record, read_slip_line}
+use Rattle.store_tables.specs.Reading.{ReadRows, read_line, read_of, read_pack, read_record, read_sides}
 use Rattle.store_tables.specs.Rows.{Rows, SlipRow, lines_of, slip_lines_of, with_later_tables, with_version}
 use Rattle.store_rows.specs.Grouped.{is_recorded, items_at, stored_at}
 use Rattle.store_rows.specs.Meaning.{
@@ -156,14 +156,13 @@ module _ (rows : Rows) (renewal : Renewal) (read : IsReadOf rows renewal) (none 
     links = mid.links;
     soughts = mid.soughts;
     slip_lines = after.slip_lines;
+    slip_packs = after.slip_packs;
   }
 
   after_is : after ≡ flat
   after_is = slips_only renewal.slips mid
-      ∙ ap (λ (x : Rows). record x { slip_lines = after.slip_lines }) (records_only renewal.records undated)
-
-  slip_lines_stay : mid.slip_lines ≡ rows.slip_lines
-  slip_lines_stay = ap (λ (x : Rows). x.slip_lines) (records_only renewal.records undated)
+      ∙ ap (λ (x : Rows). record x { slip_lines = after.slip_lines; slip_packs = after.slip_packs })
+      (records_only renewal.records undated)
 
   record_is : (n : ℕ) (found : Option OldRecord) (now : Option Record) → now ≡ option_map anew found
       → WasRecordAt rows n found → IsRecordAt flat n now
@@ -200,8 +199,7 @@ module _ (rows : Rows) (renewal : Renewal) (read : IsReadOf rows renewal) (none 
   slip_is n (Some s) now is was = subst (IsSlipAt flat n) (sym is) (
     was.0,
     slip_written (λ k. slip_lines_of k rows) n s.changes was.2 was.1 renewal.slips mid read.slips
-        (read.all_slips n (row_any n rows.slips _ was.0))
-        (λ i. slip_lines_of n (record rows { slip_lines = slip_lines_stay i })),
+        (read.all_slips n (row_any n rows.slips _ was.0)),
   )
 
   pub renewed : (c : Content) → MeansAnew rows c → IsRenewed rows c (with_renewal renewal rows)
@@ -228,7 +226,7 @@ module _ (rows : Rows) (renewal : Renewal) (read : IsReadOf rows renewal) (none 
 module _ (rows : Rows) (closed : ℕ → Bool) (lines : ℕ → List (ℕ × Label)) (slip_lines : ℕ → List SideLine)
     (closed_is : (n : ℕ) → closed n ≡ is_closed n rows.batches)
     (lines_are : (n : ℕ) → lines n ≡ stored_at (map read_line rows.lines) (map read_pack rows.packs) n)
-    (slip_lines_are : (n : ℕ) → slip_lines n ≡ items_at n (map read_slip_line rows.slip_lines)) where
+    (slip_lines_are : (n : ℕ) → slip_lines n ≡ items_at n (read_sides rows)) where
   has_is : (n : ℕ) → is_recorded closed (map read_record rows.records) n ≡ has_record n rows
   has_is n = recorded_alike closed (λ k. is_closed k rows.batches) closed_is (map read_record rows.records) n
       ∙ recorded_same (λ k. is_closed k rows.batches) n rows.records
@@ -237,7 +235,7 @@ module _ (rows : Rows) (closed : ℕ → Bool) (lines : ℕ → List (ℕ × Lab
   lines_at n = lines_are n ∙ stored_same n rows
 
   slip_lines_at : (n : ℕ) → slip_lines n ≡ slip_lines_of n rows
-  slip_lines_at n = slip_lines_are n ∙ slip_lines_same n rows.slip_lines
+  slip_lines_at n = slip_lines_are n ∙ slip_lines_same n rows
 
   pub read_of_rows : (renewal : Renewal)
       → AreRecordsAnew closed lines (map read_record rows.records) renewal.records
@@ -293,7 +291,7 @@ no_record_by rows read same = subst (λ (r : ReadRows). (closed : ℕ → Bool)
     → ((n : ℕ) → lines n ≡ stored_at r.lines r.packs n) → LacksOldRecord closed r.records lines → (c : Content)
     → MeansAnew rows c → ⊥) same
     (λ closed lines closed_is lines_are. no_record rows closed lines
-    (λ n. items_at n (map read_slip_line rows.slip_lines)) closed_is lines_are (λ n. refl))
+    (λ n. items_at n (read_sides rows)) closed_is lines_are (λ n. refl))
 
 pub no_slip_by : (rows : Rows) (read : ReadRows) → read_of rows ≡ read → (slip_lines : ℕ → List SideLine)
     → ((n : ℕ) → slip_lines n ≡ items_at n read.slip_lines) → LacksOldChanges read.slips slip_lines → (c : Content)

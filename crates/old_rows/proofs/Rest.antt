@@ -2,9 +2,7 @@
 use Rattle.std.proofs.Common.{
   ◌≡◌,
   ℕ,
-  Bool,
   true,
-  false,
   List,
   [],
   ◌∷◌,
@@ -15,27 +13,22 @@ use Rattle.std.proofs.Common.{
   sym,
   ap,
   ◌∙◌,
-  cond,
   subst,
 }
-use Rattle.std.specs.List.{list_any}
 use Rattle.gedcom_date.specs.declared.value.Span.{Span}
-use Rattle.store_tables.specs.Rows.{Rows, with_slip_lines, without_slip_lines}
+use Rattle.store_tables.specs.Rows.{Rows}
 use Rattle.store_rows.specs.Links.{with_links}
 use Rattle.store_rows.specs.Sought.{Sought, with_sought_if}
 use Rattle.store_rows.specs.Spans.{with_span_if}
-use Rattle.store_rows.proofs.Slips as slips
 use Rattle.store_rows.proofs.SpansAside.{links_only}
 use Rattle.old_rows.specs.Renewing.{
   Anew,
   RecordAnew,
-  SideAnew,
   SlipAnew,
   with_later_anew,
   with_lines_anew,
   with_record_anew,
   with_records_anew,
-  with_sides_anew,
   with_slip_anew,
   with_slips_anew,
 }
@@ -102,39 +95,21 @@ records_only (r ∷ rs) rows =
     records_only rs (with_record_anew r rows) ∙ ap (alike after) (record_only r rows)
 
 -- ---- slips
-sides_only : (n : ℕ) (ss : List SideAnew) (rows : Rows) → with_sides_anew n ss rows
-    ≡ record rows { slip_lines = (with_sides_anew n ss rows).slip_lines }
-sides_only n [] rows = refl
-sides_only n (s ∷ ss) rows =
-    let mid : Rows = with_slip_lines n s.is_new s.number 0 s.anew.lines rows in
-    let after : Rows = with_sides_anew n ss mid in
-    sides_only n ss mid
-    ∙ ap (λ (x : Rows). record x { slip_lines = after.slip_lines })
-    (slips.lines_only n s.is_new s.number 0 s.anew.lines rows)
-
-abbrev with_sides_if : Bool → ℕ → List SideAnew → Rows → Rows
-with_sides_if b n ss rows = cond b (with_sides_anew n ss (without_slip_lines n rows)) rows
-
-sides_if_only : (b : Bool) (n : ℕ) (ss : List SideAnew) (rows : Rows) → with_sides_if b n ss rows
-    ≡ record rows { slip_lines = (with_sides_if b n ss rows).slip_lines }
-sides_if_only true n ss rows = sides_only n ss (without_slip_lines n rows)
-sides_if_only false n ss rows = refl
-
-slip_only : (s : SlipAnew) (rows : Rows) → with_slip_anew s rows
-    ≡ record rows { slip_lines = (with_slip_anew s rows).slip_lines }
-slip_only s rows = sides_if_only (list_any (λ (side : SideAnew). side.anew.has_changed) s.sides) s.number s.sides rows
-
 pub slips_only : (ss : List SlipAnew) (rows : Rows) → with_slips_anew ss rows
-    ≡ record rows { slip_lines = (with_slips_anew ss rows).slip_lines }
+    ≡ record rows {
+      slip_lines = (with_slips_anew ss rows).slip_lines;
+      slip_packs = (with_slips_anew ss rows).slip_packs;
+    }
 slips_only [] rows = refl
-slips_only (s ∷ ss) rows =
-    let after : Rows = with_slips_anew ss (with_slip_anew s rows) in
-    slips_only ss (with_slip_anew s rows)
-    ∙ ap (λ (x : Rows). record x { slip_lines = after.slip_lines }) (slip_only s rows)
+slips_only (s ∷ ss) rows = slips_only ss (with_slip_anew s rows)
 
 -- ---- the table of spans
 pub record_keeps : (r : RecordAnew) (rows : Rows) → rows.has_spans ≡ true → (with_record_anew r rows).has_spans ≡ true
 record_keeps r rows has = ap (λ (x : Rows). x.has_spans) (record_only r rows) ∙ has
+
+pub records_keep : (rs : List RecordAnew) (rows : Rows) → rows.has_spans ≡ true
+    → (with_records_anew rs rows).has_spans ≡ true
+records_keep rs rows has = ap (λ (x : Rows). x.has_spans) (records_only rs rows) ∙ has
 
 pub span_keeps : (n : ℕ) (span : Option Span) (rows : Rows) → rows.has_spans ≡ true
     → (with_span_if n span rows).has_spans ≡ true

@@ -1,15 +1,12 @@
 -- What is at each number when what is read anew is written.
 use Rattle.std.proofs.Common.{
   ◌≡◌,
-  ◌≢◌,
   ℕ,
-  Bool,
   true,
   false,
   List,
   [],
   ◌∷◌,
-  ◌++◌,
   map,
   refl,
   sym,
@@ -17,8 +14,6 @@ use Rattle.std.proofs.Common.{
   ◌∙◌,
   cond,
   subst,
-  append_assoc,
-  append-nil,
 }
 use Rattle.std.specs.Prelude.{◌==◌, ◌||◌}
 use Rattle.std.specs.List.{flat_map, list_any}
@@ -29,34 +24,28 @@ use Rattle.records_anew.specs.Anew.{OldChange, anew, change_anew}
 use Rattle.records_anew.specs.Old.{OldRecord, WasKeptAs}
 use Rattle.store_tables.specs.Rows.{
   Rows,
-  SlipLineRow,
+  lines_in_side,
   lines_of,
-  slip_line_of,
   slip_lines_of,
-  with_slip_lines,
-  without_slip_lines,
 }
 use Rattle.store_rows.specs.Meaning.{change_lines}
 use Rattle.store_rows.specs.Sides.{SideLine}
-use Rattle.store_rows.proofs.Own.{none_left, others_left, own}
 use Rattle.store_rows.proofs.Puts.{line_put}
 use Rattle.store_rows.proofs.Slips as slips
 use Rattle.old_rows.specs.Meaning.{IsOldChange, old_change_lines}
-use Rattle.old_rows.specs.Reading.{AreChangesAnewOf, lines_anew}
+use Rattle.old_rows.specs.Reading.{AreChangesAnewOf}
 use Rattle.old_rows.specs.Renewing.{
   IsAnewOf,
   RecordAnew,
-  SideAnew,
   SlipAnew,
   with_lines_anew,
   with_record_anew,
   with_records_anew,
-  with_sides_anew,
   with_slip_anew,
   with_slips_anew,
 }
 use Rattle.old_rows.proofs.Rest.{later_lines, later_packs}
-use Rattle.list_laws.proofs.Numbers.{it, not_it}
+use Rattle.list_laws.proofs.Numbers.{it}
 
 -- ---- items of numbers, one after the other: what waits for the first of a number is got by it, and is kept
 module _ {A : Type 0} (key : A → ℕ) (E : A → Type 0) (step : A → Rows → Rows) (P Q : Rows → Type 0) (n : ℕ)
@@ -125,102 +114,37 @@ module _ (lines : ℕ → List (ℕ × Label)) (n : ℕ) (o : OldRecord) (was : 
       (λ r k is e any. tt) with_records_anew (λ _. refl) (λ _ _ _. refl) rs now each some tt
 
 -- ---- the lines of a slip
-sides_more : (n : ℕ) (ss : List SideAnew) (rows : Rows) → slip_lines_of n (with_sides_anew n ss rows)
-    ≡ slip_lines_of n rows ++ flat_map lines_anew ss
-sides_more n [] rows = sym (append-nil (slip_lines_of n rows))
-sides_more n (s ∷ ss) rows =
-    let mid : Rows = with_slip_lines n s.is_new s.number 0 s.anew.lines rows in
-    sides_more n ss mid
-    ∙ ap (λ (ls : List SideLine). ls ++ flat_map lines_anew ss)
-    (slips.lines_more n s.is_new s.number 0 s.anew.lines rows)
-    ∙ append_assoc (slip_lines_of n rows) (lines_anew s) (flat_map lines_anew ss)
-
-sides_elsewhere : (m n : ℕ) (ss : List SideAnew) (rows : Rows) → n ≢ m
-    → own (λ (s : SlipLineRow). s.slip) m (with_sides_anew n ss rows).slip_lines
-    ≡ own (λ (s : SlipLineRow). s.slip) m rows.slip_lines
-sides_elsewhere m n [] rows off = refl
-sides_elsewhere m n (s ∷ ss) rows off =
-    sides_elsewhere m n ss (with_slip_lines n s.is_new s.number 0 s.anew.lines rows) off
-    ∙ slips.lines_elsewhere m n s.is_new s.number 0 s.anew.lines rows off
-
-sides_put : (n k : ℕ) (ss : List SideAnew) (rows : Rows)
-    → slip_lines_of n (with_sides_anew k ss (without_slip_lines k rows))
-    ≡ cond (k == n) (flat_map lines_anew ss) (slip_lines_of n rows)
-sides_put n k ss rows =
-    elim (k == n) as (λ b. (k == n) ≡ b → slip_lines_of n (with_sides_anew k ss (without_slip_lines k rows))
-    ≡ cond b (flat_map lines_anew ss) (slip_lines_of n rows)) [
-      | true ↦ λ e. ap (λ j. slip_lines_of n (with_sides_anew j ss (without_slip_lines j rows))) (it k n e)
-          ∙ sides_more n ss (without_slip_lines n rows)
-          ∙ ap (λ (ls : List SlipLineRow). map slip_line_of ls ++ flat_map lines_anew ss)
-          (none_left (λ (s : SlipLineRow). s.slip) n rows.slip_lines)
-      | false ↦ λ e. ap (map slip_line_of)
-          (sides_elsewhere n k ss (without_slip_lines k rows) (not_it k n e)
-          ∙ others_left (λ (s : SlipLineRow). s.slip) n k rows.slip_lines (not_it k n e))
-    ] refl
-
 module _ (lines : ℕ → List SideLine) (n : ℕ) (cs : List OldChange) (were : EachOf IsOldChange cs)
     (was : lines n ≡ flat_map old_change_lines cs) where
   abbrev IsSlipRead : SlipAnew → Type 0
   IsSlipRead s = AreChangesAnewOf (lines s.number) s.sides
 
-  abbrev changes_in : SlipAnew → Bool
-  changes_in s = list_any (λ (side : SideAnew). side.anew.has_changed) s.sides
-
   slip_it : (s : SlipAnew) → IsSlipRead s → (s.number == n) ≡ true → AreChangesAnewOf (lines n) s.sides
   slip_it s is e = subst (λ k. AreChangesAnewOf (lines k) s.sides) (it s.number n e) is
-
-  slip_after : (s : SlipAnew) (now : Rows) → slip_lines_of n (with_slip_anew s now)
-      ≡ cond (changes_in s) (cond (s.number == n) (flat_map lines_anew s.sides) (slip_lines_of n now))
-      (slip_lines_of n now)
-  slip_after s now =
-      elim (changes_in s) as (λ b. slip_lines_of n (cond b (with_sides_anew s.number s.sides
-      (without_slip_lines s.number now)) now)
-      ≡ cond b (cond (s.number == n) (flat_map lines_anew s.sides) (slip_lines_of n now)) (slip_lines_of n now)) [
-        | true ↦ sides_put n s.number s.sides now
-        | false ↦ refl
-      ]
 
   abbrev HasSlip : Rows → Type 0
   HasSlip now = slip_lines_of n now ≡ flat_map change_lines (map change_anew cs)
 
-  abbrev HadSlip : Rows → Type 0
-  HadSlip now = slip_lines_of n now ≡ lines n
+  abbrev AnySlip : Rows → Type 0
+  AnySlip now = Unit {0}
 
   slip_kept : (s : SlipAnew) (now : Rows) → IsSlipRead s → HasSlip now → HasSlip (with_slip_anew s now)
-  slip_kept s now is here = slip_after s now
-      ∙ (elim (changes_in s) as (λ b. cond b (cond (s.number == n) (flat_map lines_anew s.sides)
-      (slip_lines_of n now)) (slip_lines_of n now) ≡ flat_map change_lines (map change_anew cs)) [
-        | true ↦ elim (s.number == n) as (λ b. (s.number == n) ≡ b
-            → cond b (flat_map lines_anew s.sides) (slip_lines_of n now) ≡ flat_map change_lines
-            (map change_anew cs)) [
-              | true ↦ λ e. (slip_it s is e).kept cs were was
-              | false ↦ λ e. here
-            ] refl
-        | false ↦ here
-      ])
-
-  slip_got : (s : SlipAnew) (now : Rows) → IsSlipRead s → (s.number == n) ≡ true → HadSlip now
-      → HasSlip (with_slip_anew s now)
-  slip_got s now is e here = slip_after s now
-      ∙ (elim (changes_in s) as (λ b. changes_in s ≡ b
-      → cond b (cond (s.number == n) (flat_map lines_anew s.sides) (slip_lines_of n now)) (slip_lines_of n now)
-      ≡ flat_map change_lines (map change_anew cs)) [
-        | true ↦ λ _. ap (λ b. cond b (flat_map lines_anew s.sides) (slip_lines_of n now)) e
-            ∙ (slip_it s is e).kept cs were was
-        | false ↦ λ none. here ∙ sym ((slip_it s is e).same none) ∙ (slip_it s is e).kept cs were was
+  slip_kept s now is here = slips.sides_put n s.number s.sides now
+      ∙ (elim (s.number == n) as (λ b. (s.number == n) ≡ b → cond b (flat_map lines_in_side s.sides)
+      (slip_lines_of n now) ≡ flat_map change_lines (map change_anew cs)) [
+        | true ↦ λ e. slip_it s is e cs were was
+        | false ↦ λ e. here
       ] refl)
 
-  slip_waits : (s : SlipAnew) (now : Rows) → IsSlipRead s → (s.number == n) ≡ false → HadSlip now
-      → HadSlip (with_slip_anew s now)
-  slip_waits s now is e here = slip_after s now
-      ∙ ap (λ b. cond (changes_in s) (cond b (flat_map lines_anew s.sides) (slip_lines_of n now))
-      (slip_lines_of n now)) e
-      ∙ (elim (changes_in s) as (λ b. cond b (slip_lines_of n now) (slip_lines_of n now) ≡ lines n)
-      [ true ↦ here | false ↦ here ])
+  slip_got : (s : SlipAnew) (now : Rows) → IsSlipRead s → (s.number == n) ≡ true → AnySlip now
+      → HasSlip (with_slip_anew s now)
+  slip_got s now is e any = slips.sides_put n s.number s.sides now
+      ∙ ap (λ b. cond b (flat_map lines_in_side s.sides) (slip_lines_of n now)) e
+      ∙ slip_it s is e cs were was
 
   pub slip_written : (ss : List SlipAnew) (now : Rows) → EachOf IsSlipRead ss
-      → list_any (λ (s : SlipAnew). s.number == n) ss ≡ true → slip_lines_of n now ≡ lines n
+      → list_any (λ (s : SlipAnew). s.number == n) ss ≡ true
       → slip_lines_of n (with_slips_anew ss now) ≡ flat_map change_lines (map change_anew cs)
-  slip_written ss now each some here =
-      got_by_all (λ (s : SlipAnew). s.number) IsSlipRead with_slip_anew HasSlip HadSlip n slip_kept slip_got
-      slip_waits with_slips_anew (λ _. refl) (λ _ _ _. refl) ss now each some here
+  slip_written ss now each some =
+      got_by_all (λ (s : SlipAnew). s.number) IsSlipRead with_slip_anew HasSlip AnySlip n slip_kept slip_got
+      (λ s k is e any. tt) with_slips_anew (λ _. refl) (λ _ _ _. refl) ss now each some tt

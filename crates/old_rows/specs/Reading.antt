@@ -1,5 +1,5 @@
 -- What the code meets that reads the rows of the first version. No clause of a public call names these definitions.
-use Rattle.std.specs.Prelude.{ℕ, ◌≡◌, ◌≢◌, ◌==◌, Bool, true, false, List, map}
+use Rattle.std.specs.Prelude.{ℕ, ◌≡◌, ◌≢◌, ◌==◌, Bool, true, List, map}
 use Rattle.std.specs.List.{flat_map, list_any}
 use Rattle.stored_lines.specs.Line.{Label}
 use Rattle.records.specs.Stored.{stored}
@@ -7,12 +7,12 @@ use Rattle.record_shapes.specs.Lists.{EachOf}
 use Rattle.records_anew.specs.Anew.{OldChange, anew, change_anew}
 use Rattle.records_anew.specs.Old.{IsOld, OldRecord}
 use Rattle.records_anew.specs.Reading.{WasKeptAsNone}
-use Rattle.store_tables.specs.Rows.{SlipRow}
+use Rattle.store_tables.specs.Rows.{SlipRow, SlipSide, lines_in_side}
 use Rattle.store_rows.specs.Grouped.{is_recorded}
 use Rattle.store_rows.specs.Meaning.{change_lines, side_lines}
 use Rattle.store_rows.specs.Sides.{SideLine}
 use Rattle.old_rows.specs.Meaning.{IsOldChange, IsShallowOld, IsShallowOldChange, old_change_lines, old_lines}
-use Rattle.old_rows.specs.Renewing.{IsAnewOf, RecordAnew, SideAnew, SlipAnew}
+use Rattle.old_rows.specs.Renewing.{IsAnewOf, RecordAnew, SlipAnew}
 
 -- each of these records is read anew from the lines of its number, and each number with a record is among them
 pub record AreRecordsAnew (closed : ℕ → Bool) (lines : ℕ → List (ℕ × Label)) (rows : List (ℕ × ℕ))
@@ -38,9 +38,6 @@ old_side_lines s = side_lines s.is_new s.number (old_lines s.old)
 abbrev pub new_side_lines : OldSide → List SideLine
 new_side_lines s = side_lines s.is_new s.number (stored (anew s.old))
 
-abbrev pub lines_anew : SideAnew → List SideLine
-lines_anew s = side_lines s.is_new s.number s.anew.lines
-
 abbrev pub WasSide : OldSide → Type 0
 WasSide s = IsOld s.old
 
@@ -48,20 +45,17 @@ abbrev pub WasShallowSide : OldSide → Type 0
 WasShallowSide s = IsOld s.old × IsShallowOld s.old
 
 -- what a side of that time with these lines is today
-pub record IsSideAnewOf (lines : List SideLine) (s : SideAnew) : Type 0 where
-  pub kept : (old : OldSide) → WasSide old → lines ≡ old_side_lines old → lines_anew s ≡ new_side_lines old
-  pub same : s.anew.has_changed ≡ false → lines_anew s ≡ lines
+abbrev pub IsSideAnewOf : List SideLine → SlipSide → Type 0
+IsSideAnewOf lines s = (old : OldSide) → WasSide old → lines ≡ old_side_lines old → lines_in_side s ≡ new_side_lines old
 
-pub record AreSidesAnewOf (lines : List SideLine) (sides : List SideAnew) : Type 0 where
-  pub kept : (olds : List OldSide) → EachOf WasSide olds → lines ≡ flat_map old_side_lines olds
-      → flat_map lines_anew sides ≡ flat_map new_side_lines olds
-  pub same : list_any (λ (s : SideAnew). s.anew.has_changed) sides ≡ false → flat_map lines_anew sides ≡ lines
+abbrev pub AreSidesAnewOf : List SideLine → List SlipSide → Type 0
+AreSidesAnewOf lines sides = (olds : List OldSide) → EachOf WasSide olds → lines ≡ flat_map old_side_lines olds
+    → flat_map lines_in_side sides ≡ flat_map new_side_lines olds
 
 -- the same of the changes of a slip
-pub record AreChangesAnewOf (lines : List SideLine) (sides : List SideAnew) : Type 0 where
-  pub kept : (cs : List OldChange) → EachOf IsOldChange cs → lines ≡ flat_map old_change_lines cs
-      → flat_map lines_anew sides ≡ flat_map change_lines (map change_anew cs)
-  pub same : list_any (λ (s : SideAnew). s.anew.has_changed) sides ≡ false → flat_map lines_anew sides ≡ lines
+abbrev pub AreChangesAnewOf : List SideLine → List SlipSide → Type 0
+AreChangesAnewOf lines sides = (cs : List OldChange) → EachOf IsOldChange cs → lines ≡ flat_map old_change_lines cs
+    → flat_map lines_in_side sides ≡ flat_map change_lines (map change_anew cs)
 
 -- lines that are those of no side, of no sides and of no changes of that time
 abbrev pub WasNoSide : List SideLine → Type 0

@@ -1,6 +1,5 @@
 -- What is written to make rows of the second version of those of the first. Rules of our own.
-use Rattle.std.specs.Prelude.{ℕ, ◌≡◌, ◌⊎◌, Bool, false, List, [], ◌∷◌, Option, cond}
-use Rattle.std.specs.List.{list_any}
+use Rattle.std.specs.Prelude.{ℕ, ◌≡◌, ◌⊎◌, List, [], ◌∷◌, Option}
 use Rattle.gedcom_date.specs.declared.value.Span.{Span}
 use Rattle.stored_lines.specs.Line.{Label}
 use Rattle.records.specs.Stored.{stored}
@@ -13,22 +12,20 @@ use Rattle.sqlite.specs.Tree.{Trees}
 use Rattle.store_tables.specs.Calls.{Good}
 use Rattle.store_tables.specs.Rows.{
   Rows,
+  SlipSide,
   with_changed_lines,
   with_later_tables,
-  with_slip_lines,
   with_version,
-  without_slip_lines,
 }
+use Rattle.store_tables.specs.Sides.{with_slip_sides}
 use Rattle.store_rows.specs.Links.{KeepsLinks, with_links}
 use Rattle.store_rows.specs.Meaning.{AllShallow, Means}
 use Rattle.store_rows.specs.Sought.{KeepsSought, Sought, sought_of, with_sought_if}
 use Rattle.store_rows.specs.Spans.{IsDated, KeepsSpans, with_span_if}
 
--- a record as it is kept today, whether its lines are others than they were, the span of its date, and what it is
--- looked for by
+-- a record as it is kept today, the span of its date, and what it is looked for by
 pub record Anew : Type 0 where
   pub lines : List (ℕ × Label)
-  pub has_changed : Bool
   pub span : Option Span
   pub sought : Option Sought
 
@@ -36,15 +33,10 @@ pub record RecordAnew : Type 0 where
   pub number : ℕ
   pub anew : Anew
 
--- the old or the new record of a number in a slip
-pub record SideAnew : Type 0 where
-  pub is_new : Bool
-  pub number : ℕ
-  pub anew : Anew
-
+-- the old and the new records of the numbers of a slip, as they are kept today
 pub record SlipAnew : Type 0 where
   pub number : ℕ
-  pub sides : List SideAnew
+  pub sides : List SlipSide
 
 -- all records and all slips
 pub record Renewal : Type 0 where
@@ -56,7 +48,6 @@ pub record IsAnewOf (lines : List (ℕ × Label)) (a : Anew) : Type 0 where
   pub kept : (o : OldRecord) → WasKeptAs lines o → a.lines ≡ stored (anew o)
   pub spanned : (o : OldRecord) → WasKeptAs lines o → IsSpanOf (date_in (anew o)) a.span
   pub sought : (o : OldRecord) → WasKeptAs lines o → a.sought ≡ sought_of (anew o)
-  pub same : a.has_changed ≡ false → a.lines ≡ lines
 
 -- ---- what is written
 -- the lines of a record
@@ -74,15 +65,8 @@ abbrev pub with_records_anew : List RecordAnew → Rows → Rows
 with_records_anew [] rows = rows
 with_records_anew (r ∷ rs) rows = with_records_anew rs (with_record_anew r rows)
 
-abbrev pub with_sides_anew : ℕ → List SideAnew → Rows → Rows
-with_sides_anew slip [] rows = rows
-with_sides_anew slip (s ∷ ss) rows = with_sides_anew slip ss
-    (with_slip_lines slip s.is_new s.number 0 s.anew.lines rows)
-
--- a slip keeps its lines where all its records stay
 abbrev pub with_slip_anew : SlipAnew → Rows → Rows
-with_slip_anew s rows = cond (list_any (λ (side : SideAnew). side.anew.has_changed) s.sides)
-    (with_sides_anew s.number s.sides (without_slip_lines s.number rows)) rows
+with_slip_anew s rows = with_slip_sides s.number s.sides rows
 
 abbrev pub with_slips_anew : List SlipAnew → Rows → Rows
 with_slips_anew [] rows = rows

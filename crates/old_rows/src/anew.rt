@@ -3,14 +3,13 @@
 use date_spans::Span;
 use std::marker::Model;
 use store_rows::SoughtText;
+use store_tables::SlipSide;
 use stored_lines::StoredLine;
 
 /// A record as it is kept today.
 #[derive(Drop)]
 pub struct Anew {
     pub lines: Vec<StoredLine>,
-    /// Whether the lines are others than they were.
-    pub has_changed: bool,
     /// The span of its date, where it has one.
     pub span: Option<Span>,
     /// What it is looked for by, where it is looked for.
@@ -24,7 +23,6 @@ impl Model for Anew {
 
     ghost view = { λ a. record {
       lines = a.lines.items;
-      has_changed = a.has_changed;
       span = a.span;
       sought = a.sought;
     } };
@@ -45,27 +43,11 @@ impl Model for RecordAnew {
     ghost view = { λ a. record { number = a.number; anew = a.anew } };
 }
 
-/// The old or the new record of a number in a slip.
-#[derive(Drop)]
-pub struct SideAnew {
-    pub is_new: bool,
-    pub number: u32,
-    pub anew: Anew,
-}
-
-impl Model for SideAnew {
-    ghost use Rattle.old_rows.specs.Renewing as renewing;
-
-    ghost Value = { renewing.SideAnew };
-
-    ghost view = { λ a. record { is_new = a.is_new; number = a.number; anew = a.anew } };
-}
-
-/// The records of a slip, in order.
+/// The old and the new records of a slip, in order.
 #[derive(Drop)]
 pub struct SlipAnew {
     pub number: u32,
-    pub sides: Vec<SideAnew>,
+    pub sides: Vec<SlipSide>,
 }
 
 impl Model for SlipAnew {

@@ -15,7 +15,7 @@ mod renewing;
 mod sides;
 mod writing;
 
-pub use anew::{Anew, RecordAnew, Renewal, SideAnew, SlipAnew};
+pub use anew::{Anew, RecordAnew, Renewal, SlipAnew};
 pub use renewal::renewal_of;
 pub use renewing::renew;
 pub use writing::write_renewal;

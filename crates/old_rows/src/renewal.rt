@@ -23,7 +23,7 @@ ghost use Rattle.old_rows.specs.Reading.{
 };
 ghost use Rattle.old_rows.specs.Renewing.{IsAnewOf, IsRenewed, with_renewal};
 
-use crate::anew::{Anew, RecordAnew, Renewal, SideAnew, SlipAnew};
+use crate::anew::{Anew, RecordAnew, Renewal, SlipAnew};
 use crate::sides::sides_anew;
 use date_spans::span_of;
 use record_text::RefusalKind;
@@ -33,7 +33,7 @@ use std::alloc::{AllocError, Global};
 use std::collections::{BTreeMap, BTreeSet};
 use store_rows::grouping::{closed_batches, grouped_lines, grouped_slip_lines};
 use store_rows::sought_of;
-use store_tables::{RecordRow, SlipLineRow, SlipRow, StoredRows};
+use store_tables::{RecordRow, SlipLineRow, SlipRow, SlipSide, StoredRows};
 use stored_lines::StoredLine;
 
 /// What all records of closed batches and all slips are today, whichever rows of the first version were read as these.
@@ -132,21 +132,19 @@ pub(crate) fn anew_of(alloc: Global, lines: &[StoredLine]) -> Result<Anew, Refus
     ensures refused { IfErr result (IsRefusedBy (WasKeptAsNone lines.now)) }
 {
     match read_anew(alloc, lines)? {
-        ReadAnew::Stays(found) => Ok(kept(alloc, &found, false)?),
-        ReadAnew::Changes(found) => Ok(kept(alloc, &found, true)?),
+        ReadAnew::Stays(found) => Ok(kept(alloc, &found)?),
+        ReadAnew::Changes(found) => Ok(kept(alloc, &found)?),
     }
 }
 
 /// A record as it is kept today, with its span and what it is looked for by.
-fn kept(alloc: Global, found: &Record, has_changed: bool) -> Result<Anew, AllocError>
+fn kept(alloc: Global, found: &Record) -> Result<Anew, AllocError>
     ensures lines { IfOk result (λ anew. anew.lines ≡ stored found.now) }
-    ensures changed { IfOk result (λ anew. anew.has_changed ≡ has_changed) }
     ensures span { IfOk result (λ anew. IsSpanOf (date_in found.now) anew.span) }
     ensures sought { IfOk result (λ anew. anew.sought ≡ sought_of found.now) }
 {
     Ok(Anew {
         lines: lines_of(alloc, found)?,
-        has_changed,
         span: span_of(alloc, found)?,
         sought: sought_of(alloc, found)?,
     })
@@ -190,7 +188,7 @@ fn sides_at(
     alloc: Global,
     groups: &BTreeMap<u32, Vec<SlipLineRow>>,
     number: u32,
-) -> Result<Vec<SideAnew>, RefusalKind>
+) -> Result<Vec<SlipSide>, RefusalKind>
     ensures read { IfOk result (λ sides. AreChangesAnewOf (slip_group_at groups.now number) sides.items) }
     ensures refused { IfErr result (IsRefusedBy (WereNoChanges (slip_group_at groups.now number))) }
 {

@@ -12,15 +12,14 @@ ghost use Rattle.old_rows.specs.Reading.{
   WereNoSides,
 };
 
-use crate::anew::SideAnew;
 use crate::renewal::{anew_of, push};
 use record_text::RefusalKind;
 use std::alloc::Global;
 use store_rows::sides::{are_of_side, first_side, stored_in};
-use store_tables::SlipLineRow;
+use store_tables::{SlipLineRow, SlipSide};
 
 /// The records of a slip, from its lines in order. 40: these were the lines of no changes.
-pub(crate) fn sides_anew(alloc: Global, lines: &[SlipLineRow]) -> Result<Vec<SideAnew>, RefusalKind>
+pub(crate) fn sides_anew(alloc: Global, lines: &[SlipLineRow]) -> Result<Vec<SlipSide>, RefusalKind>
     ensures read { IfOk result (λ sides. AreChangesAnewOf (side_lines_in lines.now) sides.items) }
     ensures refused { IfErr result (IsRefusedBy (WereNoChanges (side_lines_in lines.now))) }
 {
@@ -28,7 +27,7 @@ pub(crate) fn sides_anew(alloc: Global, lines: &[SlipLineRow]) -> Result<Vec<Sid
 }
 
 /// The sides that lines are of, in order. 40: these were the lines of no sides.
-fn parted(alloc: Global, lines: &[SlipLineRow]) -> Result<Vec<SideAnew>, RefusalKind>
+fn parted(alloc: Global, lines: &[SlipLineRow]) -> Result<Vec<SlipSide>, RefusalKind>
     ensures read { IfOk result (λ sides. AreSidesAnewOf (side_lines_in lines.now) sides.items) }
     ensures refused { IfErr result (IsRefusedBy (WereNoSides (side_lines_in lines.now))) }
 {
@@ -44,7 +43,7 @@ fn parted(alloc: Global, lines: &[SlipLineRow]) -> Result<Vec<SideAnew>, Refusal
 }
 
 /// The side that lines are of. 40: these were not the lines of one side.
-fn side_anew(alloc: Global, lines: &[SlipLineRow]) -> Result<SideAnew, RefusalKind>
+fn side_anew(alloc: Global, lines: &[SlipLineRow]) -> Result<SlipSide, RefusalKind>
     ensures read { IfOk result (λ side. IsSideAnewOf (side_lines_in lines.now) side) }
     ensures refused { IfErr result (IsRefusedBy (WasNoSide (side_lines_in lines.now))) }
 {
@@ -55,9 +54,9 @@ fn side_anew(alloc: Global, lines: &[SlipLineRow]) -> Result<SideAnew, RefusalKi
         return Err(RefusalKind::BadStored);
     }
     let stored = stored_in(alloc, lines)?;
-    Ok(SideAnew {
+    Ok(SlipSide {
         is_new: first.is_new,
         number: first.number,
-        anew: anew_of(alloc, &stored)?,
+        lines: anew_of(alloc, &stored)?.lines,
     })
 }

@@ -1,34 +1,31 @@
 //! What is read anew, written as rows inside a transaction.
 
 ghost use Rattle.std.specs.Prelude.{◌≡◌};
-ghost use Rattle.std.specs.List.{list_any};
 ghost use Rattle.sqlite.specs.Held.{state};
-ghost use Rattle.store_tables.specs.Calls.{LeavesAsBefore, Writes, WritesDated, WritesUndated};
-ghost use Rattle.store_tables.specs.Rows.{with_slip_lines};
+ghost use Rattle.store_tables.specs.Calls.{LeavesAsBefore, WritesDated, WritesUndated};
 ghost use Rattle.store_rows.specs.Sought.{with_sought_if};
 ghost use Rattle.store_rows.specs.Spans.{with_span_if};
 ghost use Rattle.old_rows.specs.Renewing.{
-  SideAnew,
   with_later_anew,
   with_record_anew,
   with_records_anew,
   with_renewal,
-  with_sides_anew,
   with_slip_anew,
   with_slips_anew,
 };
 
-use crate::anew::{Anew, RecordAnew, Renewal, SideAnew, SlipAnew};
+use crate::anew::{Anew, RecordAnew, Renewal, SlipAnew};
 use date_spans::Span;
 use sqlite::{Alter, Error, Transaction};
 use std::alloc::Global;
 use store_rows::{SoughtText, link_lines};
-use store_tables::lines::{change_lines, insert_slip_lines};
-use store_tables::{create_later_tables, rows, soughts, spans};
+use store_tables::lines::change_lines;
+use store_tables::sides::write_sides;
+use store_tables::{create_later_tables, soughts, spans};
 
 /// Writes what is read anew in tables of the first version: the tables that the second one has and its number, the
-/// lines of each record, the spans, what is looked for, the links, and each slip of which a record changes. After
-/// an error the transaction is to be given up.
+/// lines of each record, the spans, what is looked for, the links, and the sides of each slip. After an error the
+/// transaction is to be given up.
 pub fn write_renewal<S: Alter>(
     alloc: Global,
     tx: &mut Transaction<'_, S>,
@@ -42,7 +39,7 @@ pub fn write_renewal<S: Alter>(
     create_later_tables(tx)?;
     spans::set_version(tx)?;
     write_records(alloc, tx, &renewal.records)?;
-    write_slips(tx, &renewal.slips)
+    write_slips(alloc, tx, &renewal.slips)
 }
 
 /// The lines of the records, and all spans, all that is looked for and all links.
@@ -138,83 +135,33 @@ fn write_sought<S: Alter>(
     }
 }
 
-/// The lines of the slips of which a record changes.
-fn write_slips<S: Alter>(tx: &mut Transaction<'_, S>, slips: &[SlipAnew]) -> Result<(), Error>
+/// The sides of the slips.
+fn write_slips<S: Alter>(
+    alloc: Global,
+    tx: &mut Transaction<'_, S>,
+    slips: &[SlipAnew],
+) -> Result<(), Error>
     ensures same_reference { tx.new.conn.ghost_name ≡ tx.old.conn.ghost_name }
-    ensures ok { Writes (state S.Store tx.old.conn.now) (state S.Store tx.new.conn.now)
+    ensures ok { WritesDated (state S.Store tx.old.conn.now) (state S.Store tx.new.conn.now)
         result (with_slips_anew slips.now) }
     ensures survives { LeavesAsBefore (state S.Store tx.old.conn.now) (state S.Store tx.new.conn.now) }
 {
     'slips: for slip in slips {
-        write_slip(tx, slip)?;
+        write_slip(alloc, tx, slip)?;
     }
     Ok(())
 }
 
-/// The lines of a slip in place of those that it had, where a record of it changes.
-fn write_slip<S: Alter>(tx: &mut Transaction<'_, S>, slip: &SlipAnew) -> Result<(), Error>
+/// The sides of a slip, in place of the lines that it had.
+fn write_slip<S: Alter>(
+    alloc: Global,
+    tx: &mut Transaction<'_, S>,
+    slip: &SlipAnew,
+) -> Result<(), Error>
     ensures same_reference { tx.new.conn.ghost_name ≡ tx.old.conn.ghost_name }
-    ensures ok { Writes (state S.Store tx.old.conn.now) (state S.Store tx.new.conn.now)
+    ensures ok { WritesDated (state S.Store tx.old.conn.now) (state S.Store tx.new.conn.now)
         result (with_slip_anew slip.now) }
     ensures survives { LeavesAsBefore (state S.Store tx.old.conn.now) (state S.Store tx.new.conn.now) }
 {
-    if !has_changed(&slip.sides) {
-        return Ok(());
-    }
-    rows::delete_slip_lines(tx, slip.number)?;
-    write_sides(tx, slip.number, &slip.sides)
-}
-
-/// Whether one of these records changes.
-fn has_changed(sides: &[SideAnew]) -> bool
-    ensures { result ≡ list_any (λ (s : SideAnew). s.anew.has_changed) sides.now }
-{
-    sides.iter().any(|side| side.anew.has_changed)
-}
-
-/// The lines of the records of a slip.
-fn write_sides<S: Alter>(
-    tx: &mut Transaction<'_, S>,
-    slip: u32,
-    sides: &[SideAnew],
-) -> Result<(), Error>
-    ensures same_reference { tx.new.conn.ghost_name ≡ tx.old.conn.ghost_name }
-    ensures ok { Writes (state S.Store tx.old.conn.now) (state S.Store tx.new.conn.now)
-        result (with_sides_anew slip sides.now) }
-    ensures survives { LeavesAsBefore (state S.Store tx.old.conn.now) (state S.Store tx.new.conn.now) }
-{
-    'sides: for side in sides {
-        write_side(tx, slip, side)?;
-    }
-    Ok(())
-}
-
-/// The lines of a record of a slip.
-fn write_side<S: Alter>(
-    tx: &mut Transaction<'_, S>,
-    slip: u32,
-    side: &SideAnew,
-) -> Result<(), Error>
-    ensures same_reference { tx.new.conn.ghost_name ≡ tx.old.conn.ghost_name }
-    ensures ok { Writes (state S.Store tx.old.conn.now) (state S.Store tx.new.conn.now)
-        result (with_slip_lines slip side.now.is_new side.now.number 0 side.now.anew.lines) }
-    ensures survives { LeavesAsBefore (state S.Store tx.old.conn.now) (state S.Store tx.new.conn.now) }
-{
-    write_side_lines(tx, slip, side.is_new, side.number, &side.anew)
-}
-
-/// The same of a side and a number.
-fn write_side_lines<S: Alter>(
-    tx: &mut Transaction<'_, S>,
-    slip: u32,
-    is_new: bool,
-    number: u32,
-    anew: &Anew,
-) -> Result<(), Error>
-    ensures same_reference { tx.new.conn.ghost_name ≡ tx.old.conn.ghost_name }
-    ensures ok { Writes (state S.Store tx.old.conn.now) (state S.Store tx.new.conn.now)
-        result (with_slip_lines slip is_new number 0 anew.now.lines) }
-    ensures survives { LeavesAsBefore (state S.Store tx.old.conn.now) (state S.Store tx.new.conn.now) }
-{
-    insert_slip_lines(tx, slip, is_new, number, &anew.lines)
+    write_sides(alloc, tx, slip.number, &slip.sides)
 }

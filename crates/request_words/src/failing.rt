@@ -97,6 +97,12 @@ impl View for Failing<'_> {
         state.record_at(alloc, number)
     }
 
+    fn record_numbers(&mut self, alloc: Global) -> Result<Vec<u32>, RefusalKind> {
+        self.looks.look()?;
+        let mut state: &State = self.state;
+        View::record_numbers(&mut state, alloc)
+    }
+
     fn referrers(&mut self, alloc: Global, number: u32) -> Result<Vec<u32>, RefusalKind> {
         self.looks.look()?;
         let mut state: &State = self.state;

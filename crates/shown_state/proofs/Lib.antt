@@ -1,2 +1,2 @@
-pub mod Upto
+pub mod Among
 pub mod Made

@@ -19,7 +19,7 @@ use crate::state::Shown;
 use archive_state::State;
 use records::{Citation, Entry, Event, Record, Refusal};
 use std::alloc::{AllocError, Global};
-use who_is_living::{Judgement, judged, last_number};
+use who_is_living::{Judgement, judged};
 
 /// What may be shown of an archive on a day, counted from 1970-01-01, day 0. Refused only for want of memory.
 pub fn shown(alloc: Global, state: &State, today: i32) -> Result<Shown, Refusal>
@@ -33,17 +33,16 @@ pub fn shown(alloc: Global, state: &State, today: i32) -> Result<Shown, Refusal>
     Ok(Shown::of_masked(alloc, masked))
 }
 
-/// What is shown of the records of all numbers below the next one.
+/// What is shown of each record.
 fn shown_records(alloc: Global, state: &State, judgement: &Judgement) -> Result<State, AllocError>
-    ensures { IsSound state.now
-        → KnowsSilent state.now.records judgement.now.living judgement.now.silent
+    ensures { KnowsSilent state.now.records judgement.now.living judgement.now.silent
         → IfOk result (λ masked. Shows state.now.records judgement.now.living judgement.now.open_entries
         masked.records) }
 {
-    let last = last_number(state.next());
+    let numbers = state.record_numbers(alloc)?;
     let mut masked = State::new(alloc);
-    'numbers: for before in 0..last {
-        put_shown(alloc, state, judgement, before + 1, &mut masked)?;
+    'numbers: for number in &numbers {
+        put_shown(alloc, state, judgement, *number, &mut masked)?;
     }
     Ok(masked)
 }

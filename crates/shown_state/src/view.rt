@@ -29,6 +29,10 @@ impl View for &Shown {
         state.record_at(alloc, number)
     }
 
+    fn record_numbers(&mut self, alloc: Global) -> Result<Vec<u32>, RefusalKind> {
+        Ok(self.as_state().record_numbers(alloc)?)
+    }
+
     fn referrers(&mut self, alloc: Global, number: u32) -> Result<Vec<u32>, RefusalKind> {
         Ok(self.as_state().referrers(alloc, number)?)
     }

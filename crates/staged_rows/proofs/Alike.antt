@@ -1,23 +1,5 @@
 -- Rows of other tables of which the same is seen.
-use Rattle.std.proofs.Common.{
-  ◌≡◌,
-  ◌≢◌,
-  ℕ,
-  true,
-  false,
-  not,
-  List,
-  [],
-  ◌∷◌,
-  filter,
-  map,
-  refl,
-  sym,
-  ap,
-  ap₂,
-  subst,
-  ◌∙◌,
-}
+use Rattle.std.proofs.Common.{◌≡◌, ◌≢◌, ℕ, true, false, not, List, [], ◌∷◌, refl, sym, ap, ap₂, subst, ◌∙◌}
 use Rattle.std.specs.Prelude.{◌==◌, ◌&&◌, ◌||◌, Option, Some, None}
 use Rattle.std.specs.List.{list_any}
 use Rattle.std.specs.FinMap.{get}
@@ -32,11 +14,10 @@ use Rattle.store_tables.specs.Rows.{
   LineRow,
   LinkRow,
   PackRow,
-  SlipLineRow,
   SoughtRow,
   SpanRow,
   lines_of,
-  slip_line_of,
+  slip_lines_of,
 }
 use Rattle.store_rows.specs.Meaning.{
   IsRecordAt,
@@ -61,11 +42,11 @@ at_number n rows other has lines None h = has ∙ h
 at_number n rows other has lines (Some r) h = (has ∙ h.0, lines h.0 ∙ h.1)
 
 at_slip : (n : ℕ) (rows other : Rows) → other.slips ≡ rows.slips → other.slip_lines ≡ rows.slip_lines
-    → (o : Option Slip) → IsSlipAt rows n o → IsSlipAt other n o
-at_slip n rows other slips lines None h = ap (slip_row_at n) slips ∙ h
-at_slip n rows other slips lines (Some slip) h = (
+    → other.slip_packs ≡ rows.slip_packs → (o : Option Slip) → IsSlipAt rows n o → IsSlipAt other n o
+at_slip n rows other slips lines packs None h = ap (slip_row_at n) slips ∙ h
+at_slip n rows other slips lines packs (Some slip) h = (
   ap (slip_row_at n) slips ∙ h.0,
-  ap (λ (ls : List SlipLineRow). map slip_line_of (filter (λ (s : SlipLineRow). s.slip == n) ls)) lines ∙ h.1,
+  (λ i. slip_lines_of n (record rows { slip_lines = lines i; slip_packs = packs i })) ∙ h.1,
 )
 
 pub seen_means : (rows other : Rows) (c : Content) → IsSeenAs rows other → Means rows c → Means other c
@@ -74,7 +55,7 @@ seen_means rows other c seen was = record {
   records = λ n. at_number n rows other (seen.recorded n) (seen.lines n) (get c.records n) (was.records n);
   next = seen.next ∙ was.next;
   receipts = was.receipts ∙ ap receipts_in (sym seen.receipts);
-  slips = λ n. at_slip n rows other seen.slips seen.slip_lines (get c.slips n) (was.slips n);
+  slips = λ n. at_slip n rows other seen.slips seen.slip_lines seen.slip_packs (get c.slips n) (was.slips n);
 }
 
 spanned : (n : ℕ) (rows other : Rows) → IsSeenAs rows other → (o : Option Record) → IsRecordAt rows n o
@@ -116,6 +97,7 @@ seen_then a b c first next = record {
   receipts = next.receipts ∙ first.receipts;
   slips = next.slips ∙ first.slips;
   slip_lines = next.slip_lines ∙ first.slip_lines;
+  slip_packs = next.slip_packs ∙ first.slip_packs;
   batch = next.batch ∙ first.batch;
   recorded = λ n. next.recorded n ∙ first.recorded n;
   lines = λ n has. next.lines n (first.recorded n ∙ has) ∙ first.lines n has;
@@ -143,6 +125,7 @@ seen_alike bs rs ls ss rows closed has lines spans = record {
   receipts = refl;
   slips = refl;
   slip_lines = refl;
+  slip_packs = refl;
   batch = closed;
   recorded = has;
   lines = lines;
@@ -163,6 +146,7 @@ seen_packed ps rows lines = record {
   receipts = refl;
   slips = refl;
   slip_lines = refl;
+  slip_packs = refl;
   batch = refl;
   recorded = λ n. refl;
   lines = lines;
@@ -183,6 +167,7 @@ seen_linked ls rows links = record {
   receipts = refl;
   slips = refl;
   slip_lines = refl;
+  slip_packs = refl;
   batch = refl;
   recorded = λ n. refl;
   lines = λ n has. refl;
@@ -202,6 +187,7 @@ seen_sought ss rows soughts = record {
   receipts = refl;
   slips = refl;
   slip_lines = refl;
+  slip_packs = refl;
   batch = refl;
   recorded = λ n. refl;
   lines = λ n has. refl;

@@ -355,6 +355,7 @@ seen_alike rows other seen = record {
   receipts = seen.receipts;
   slips = seen.slips;
   slip_lines = seen.slip_lines;
+  slip_packs = seen.slip_packs;
   batch = seen.batch;
   recorded = seen.recorded;
   lines = seen.lines;

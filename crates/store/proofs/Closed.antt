@@ -39,7 +39,6 @@ use Rattle.store_rows.specs.Writing.{
   without_records,
 }
 use Rattle.store_rows.proofs.Meaning.{puts_only, removed_only}
-use Rattle.store_rows.proofs.Slips.{made_only}
 use Rattle.store_rows.proofs.SpansAside.{dated_only}
 use Rattle.staged_rows.specs.Staging.{
   StagedRow,
@@ -66,7 +65,7 @@ kept_batches (Some kept) rows = refl
 
 slip_batches : (slip : Option SlipChange) (rows : Rows) → (with_slip_written slip rows).batches ≡ rows.batches
 slip_batches None rows = refl
-slip_batches (Some (change.Made n slip)) rows = ap (λ (r : Rows). r.batches) (made_only n slip rows)
+slip_batches (Some (change.Made n slip)) rows = refl
 slip_batches (Some (change.Undone n)) rows = refl
 
 changes_batches : (changes : Changes) (rows : Rows) → (with_changes changes rows).batches ≡ rows.batches

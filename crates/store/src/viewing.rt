@@ -46,6 +46,16 @@ impl<S: Alter> View for Archive<S> {
         }
     }
 
+    fn record_numbers(&mut self, alloc: Global) -> Result<Vec<u32>, RefusalKind> {
+        if self.is_lost {
+            return Err(fail(self, RefusalKind::Storage));
+        }
+        match looking::record_numbers(alloc, &mut self.conn) {
+            Ok(found) => Ok(found),
+            Err(kind) => Err(fail(self, kind)),
+        }
+    }
+
     fn referrers(&mut self, alloc: Global, number: u32) -> Result<Vec<u32>, RefusalKind> {
         if self.is_lost {
             return Err(fail(self, RefusalKind::Storage));

@@ -81,10 +81,10 @@ named_rises n (e ∷ es) h =
     ]
 
 -- ---- what a set has, as its list has it
-abbrev as_set : List ℕ → BTreeSet ℕ
+abbrev pub as_set : List ℕ → BTreeSet ℕ
 as_set ks = record { keys = ks }
 
-has_it : (ks : List ℕ) (q : ℕ) → set.contains nat_cmp (as_set ks) q ≡ list_any (λ k. k == q) ks
+pub has_it : (ks : List ℕ) (q : ℕ) → set.contains nat_cmp (as_set ks) q ≡ list_any (λ k. k == q) ks
 has_it ks q = any_alike (λ k. is_eq (nat_cmp q k)) (λ k. k == q) (λ k. unsigned_tied q k ∙ either_way q k) ks
 
 -- those of a list that pass a test

@@ -48,6 +48,11 @@ dated_then a b c f g keeps p q rows has was =
     let two = q (f rows) (keeps rows has) one.0 in
     (two.0, two.1 ∙ one.1)
 
+-- calls over tables of either schema, and then one over tables that have spans
+pub row_then : (a b c : State) (f g : Rows → Rows) → ((rows : Rows) → (f rows).has_spans ≡ rows.has_spans)
+    → Follows a b f → FollowsDated b c g → FollowsDated a c (λ rows. g (f rows))
+row_then a b c f g keeps p q = dated_then a b c f g (λ rows has. keeps rows ∙ has) (λ rows has was. p rows was) q
+
 pub nothing_done : (s : State) → Survives s s (λ _. ⊥)
 nothing_done s = record {
   clean = omega arith;
@@ -125,14 +130,14 @@ none_drawn s all = record {
 
 -- ---- all changes: what goes with what is taken out, the changes, and what goes with what is put
 pub dated_all : {A E : Type 0} (r : Result A E) (a b c d : State) (changes : Changes)
-    → FollowsDated a b (without_all_of changes.removals) → Follows b c (with_changes changes)
+    → FollowsDated a b (without_all_of changes.removals) → FollowsDated b c (with_changes changes)
     → OnOk r ((drawn : Drawn) × AreDrawn changes.puts drawn × FollowsDated c d (with_all_of changes.puts drawn))
     → OnOk r (FollowsDrawn a d changes)
 dated_all r a b c d changes p q = on_ok r (λ last rows has was.
     let left : Rows = without_all_of changes.removals rows in
     let one = p rows has was in
-    let two = q left one.0 in
-    let three = last.2 (with_changes changes left) (changed_has changes left
-    ∙ sought_left_has changes.removals (without_all_spans changes.removals rows)
-    ∙ left_has changes.removals rows ∙ has) two.0 in
+    let still : left.has_spans ≡ true = sought_left_has changes.removals (without_all_spans changes.removals rows)
+    ∙ left_has changes.removals rows ∙ has in
+    let two = q left still one.0 in
+    let three = last.2 (with_changes changes left) (changed_has changes left ∙ still) two.0 in
     (last.0, last.1, three.0, three.1 ∙ two.1 ∙ one.1))

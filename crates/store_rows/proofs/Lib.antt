@@ -8,6 +8,7 @@ pub mod Naming
 pub mod OneContent
 pub mod Own
 pub mod Puts
+pub mod RecordNumbers
 pub mod Seen
 mod Showing
 pub mod SidesParted

@@ -39,7 +39,7 @@ use Rattle.store_rows.proofs.Puts.{
   lines_put_only,
   lines_removed_only,
 }
-use Rattle.store_rows.proofs.Slips.{made_only, made_read, undone_read}
+use Rattle.store_rows.proofs.Slips.{made_read, undone_read}
 
 moved : (has has2 : Bool) (lines lines2 : List (ℕ × Label)) (found found2 : Option Record) → has ≡ has2 → lines ≡ lines2
     → found ≡ found2 → IsAt has2 lines2 found2 → IsAt has lines found
@@ -126,14 +126,13 @@ kept_mean (Some kept) rows c h =
 slip_means : (slip : Option SlipChange) (rows : Rows) (c : Content) → Means rows c
     → Means (with_slip_written slip rows) (record c { slips = with_slip c.slips slip })
 slip_means None rows c h = h
-slip_means (Some (change.Made n slip)) rows c h = subst (λ r. Means r (record c { slips = insert c.slips n slip }))
-    (sym (made_only n slip rows)) (record {
-      batch = h.batch;
-      records = h.records;
-      next = h.next;
-      receipts = h.receipts;
-      slips = λ k. made_read n slip rows c.slips k (h.slips k);
-    })
+slip_means (Some (change.Made n slip)) rows c h = record {
+  batch = h.batch;
+  records = h.records;
+  next = h.next;
+  receipts = h.receipts;
+  slips = λ k. made_read n slip rows c.slips k (h.slips k);
+}
 slip_means (Some (change.Undone n)) rows c h = record {
   batch = h.batch;
   records = h.records;

@@ -10,6 +10,7 @@ use Rattle.std.proofs.Common.{
   List,
   [],
   ◌∷◌,
+  ◌++◌,
   map,
   filter,
   cond,
@@ -17,6 +18,7 @@ use Rattle.std.proofs.Common.{
   refl,
   sym,
   ap,
+  ap₂,
   subst,
   ◌∙◌,
   Result,
@@ -34,6 +36,7 @@ use Rattle.std.specs.Ordering.{nat_cmp}
 use Rattle.std.specs.Cmp.Lexicographic.{slice_cmp}
 use Rattle.std.proofs.lemmas.Cmp.{nat_list_cmp_total}
 use Rattle.std.proofs.lemmas.Map.Text.{is_eq-slice_cmp}
+use Rattle.std.proofs.lemmas.List.{map-append}
 use Rattle.std.proofs.lemmas.Simd.{map-map}
 use Rattle.std.proofs.Math.Bool.{or-false}
 use Rattle.std.proofs.lemmas.Result.{IfErr-weaker}
@@ -48,7 +51,7 @@ use Rattle.archive_state.specs.Content.{Content, Receipts}
 use Rattle.archive_state.specs.Slips.{Slip}
 use Rattle.store_tables.specs.Keyed.{records_at, receipts_at, slips_at, slip_lines_at}
 use Rattle.store_tables.specs.Looking.{IsFailure, Looks}
-use Rattle.store_tables.specs.Reading.{read_record, read_receipt, read_slip_line}
+use Rattle.store_tables.specs.Reading.{lines_in_pack, read_record, read_receipt, read_slip_line, read_slip_pack}
 use Rattle.store_tables.specs.Rows.{
   Rows,
   BatchRow,
@@ -56,6 +59,8 @@ use Rattle.store_tables.specs.Rows.{
   ReceiptRow,
   SlipRow,
   SlipLineRow,
+  SlipPackRow,
+  lines_in_side,
   lines_of,
   slip_lines_of,
 }
@@ -73,7 +78,7 @@ use Rattle.store_rows.specs.Meaning.{
   slip_row,
   slip_row_at,
 }
-use Rattle.store_rows.specs.Sides.{side_lines_in, NoChanges}
+use Rattle.store_rows.specs.Sides.{SideLine, side_lines_in, NoChanges}
 use Rattle.store_rows.proofs.OneContent.{one_at, one_slip}
 use Rattle.list_laws.proofs.Lists.{any_mapped, any_kept}
 use Rattle.list_laws.proofs.Bytes.{bytes_flip}
@@ -217,8 +222,24 @@ row_none n (x ∷ xs) e =
       | false ↦ λ none. row_none n xs none
     ] e
 
+unpaired : (n : ℕ) (ls : List SideLine) → side_lines_in (map (λ l. (n, l)) ls) ≡ ls
+unpaired n [] = refl
+unpaired n (l ∷ ls) = ap (λ ks. l ∷ ks) (unpaired n ls)
+
+packs_read : (ss : List SlipPackRow) → side_lines_in (flat_map lines_in_pack (map read_slip_pack ss))
+    ≡ flat_map (λ (s : SlipPackRow). lines_in_side s.side) ss
+packs_read [] = refl
+packs_read (s ∷ ss) =
+    let rest = flat_map lines_in_pack (map read_slip_pack ss) in
+    map-append (λ r. r.1) (lines_in_pack (read_slip_pack s)) rest
+    ∙ ap₂ (λ (ks ls : List SideLine). ks ++ ls) (unpaired s.slip (lines_in_side s.side)) (packs_read ss)
+
 lines_read : (n : ℕ) (rows : Rows) → side_lines_in (slip_lines_at n rows) ≡ slip_lines_of n rows
-lines_read n rows = map-map _ read_slip_line (filter (λ (s : SlipLineRow). s.slip == n) rows.slip_lines)
+lines_read n rows =
+    let lines = filter (λ (s : SlipLineRow). s.slip == n) rows.slip_lines in
+    let packs = filter (λ (s : SlipPackRow). s.slip == n) rows.slip_packs in
+    map-append (λ r. r.1) (map read_slip_line lines) (flat_map lines_in_pack (map read_slip_pack packs))
+    ∙ ap₂ (λ (ks ls : List SideLine). ks ++ ls) (map-map _ read_slip_line lines) (packs_read packs)
 
 pub slip_none : (n : ℕ) (rows : Rows) (c : Content) → Means rows c → slips_at n rows ≡ [] → None ≡ get c.slips n
 slip_none n rows c means none = one_slip n (slip_row_at n rows.slips) (slip_lines_of n rows) None (get c.slips n)

@@ -1,5 +1,5 @@
 -- Rows of which all that is read is this.
-use Rattle.std.proofs.Common.{◌≡◌, ℕ, Bool, List, [], ◌∷◌, map, refl, sym, subst}
+use Rattle.std.proofs.Common.{◌≡◌, ℕ, Bool, List, [], ◌∷◌, map, append-nil, refl, sym, subst}
 use Rattle.sqlite.specs.State.{State}
 use Rattle.stored_lines.specs.Line.{Label}
 use Rattle.receipts.specs.declared.answer.Receipt.{Receipt}
@@ -47,6 +47,7 @@ rows_of has_spans read = record {
   receipts = map receipt_of read.receipts;
   slips = read.slips;
   slip_lines = map slip_line_row read.slip_lines;
+  slip_packs = [];
   spans = [];
   links = [];
   soughts = [];
@@ -80,6 +81,7 @@ read_back has_spans read =
       back pack_of read_pack pair read.packs,
       back receipt_of read_receipt pair read.receipts,
       back slip_line_row read_slip_line nested read.slip_lines,
+      append-nil read.slip_lines,
     ) refl in
     same
 

@@ -3,6 +3,7 @@ use Rattle.std.proofs.Common.{
   ◌≡◌,
   ◌≢◌,
   ℕ,
+  ◌<◌,
   ◌+◌,
   Bool,
   true,
@@ -12,17 +13,29 @@ use Rattle.std.proofs.Common.{
   ◌∷◌,
   ◌++◌,
   map,
+  filter,
   cond,
+  nat_lt,
   refl,
   sym,
   ap,
+  ap₂,
   ◌∙◌,
+  ◌⊎◌,
+  inl,
+  inr,
   append_assoc,
+  arith,
 }
 use Rattle.std.specs.Prelude.{◌==◌, Option, Some, None, MatchOption, option_map}
 use Rattle.std.specs.List.{flat_map}
 use Rattle.std.specs.FinMap.{get, insert}
-use Rattle.std.proofs.lemmas.List.{append-nil, map-append}
+use Rattle.std.specs.Ordering.{nat_cmp}
+use Rattle.std.specs.declared.cmp.Ordering.TheVariants.{Less, Equal, Greater}
+use Rattle.std.proofs.lemmas.Bool.Decides.{nat_tests}
+use Rattle.std.proofs.lemmas.List.{append-nil}
+use Rattle.std.proofs.lemmas.Grind.{flat_map-append}
+use Rattle.std.proofs.lemmas.List.Elements.{filter-append}
 use Rattle.stored_lines.specs.Line.{Label}
 use Rattle.record_kinds.specs.declared.record.Record.{Record}
 use Rattle.records.specs.Stored.{stored}
@@ -34,19 +47,19 @@ use Rattle.store_tables.specs.Rows.{
   Rows,
   SlipRow,
   SlipLineRow,
+  SlipPackRow,
+  SlipSide,
+  lines_in_side,
   slip_line_of,
   slip_lines_of,
-  next_key,
   put_by,
   undone_at,
   with_undone,
   with_slip_row,
-  with_slip_line,
-  with_slip_lines,
-  without_slip_lines,
 }
+use Rattle.store_tables.specs.Sides.{placed, with_slip_sides}
 use Rattle.store_rows.specs.Meaning.{IsSlipAt, side_lines, new_side, change_lines, slip_row, slip_row_at}
-use Rattle.store_rows.specs.Writing.{with_new_side, with_change, with_slip_changes, with_slip_made}
+use Rattle.store_rows.specs.Writing.{new_sides_stored, sides_stored, with_slip_made}
 use Rattle.store_rows.proofs.Got.{got_put, got_undone}
 use Rattle.store_rows.proofs.Own.{
   own,
@@ -56,10 +69,8 @@ use Rattle.store_rows.proofs.Own.{
   none_left,
   others_left,
   own_changed,
-  more_here,
-  more_elsewhere,
 }
-use Rattle.list_laws.proofs.Numbers.{it, not_it}
+use Rattle.list_laws.proofs.Numbers.{is_not, it, not_it}
 
 -- ---- the row
 abbrev first : List SlipRow → Option SlipRow
@@ -102,135 +113,183 @@ row_undone n k ss =
     ∙ first_changed (undone_at k) (own key n ss) ∙ ap (option_map (undone_at k)) (sym (first_own n ss))
 
 -- ---- its lines
-pub lines_more : (slip : ℕ) (is_new : Bool) (n at : ℕ) (ls : List (ℕ × Label)) (rows : Rows)
-    → slip_lines_of slip (with_slip_lines slip is_new n at ls rows) ≡ slip_lines_of slip rows ++ side_lines is_new n ls
-lines_more slip is_new n at [] rows = sym (append-nil (slip_lines_of slip rows))
-lines_more slip is_new n at (l ∷ ls) rows =
-    let key = λ (s : SlipLineRow). s.slip in
-    let new : SlipLineRow = record {
-      id = next_key (λ (s : SlipLineRow). s.id) rows.slip_lines;
-      slip = slip;
-      is_new = is_new;
-      no = n;
-      at = at;
-      line = l;
-    } in
-    lines_more slip is_new n (at + 1) ls (with_slip_line slip is_new n at l rows)
-    ∙ ap (λ (ss : List SlipLineRow). map slip_line_of ss ++ side_lines is_new n ls)
-    (more_here key slip new rows.slip_lines refl)
-    ∙ ap (λ (ks : List (Bool × (ℕ × (ℕ × Label)))). ks ++ side_lines is_new n ls)
-    (map-append slip_line_of (own key slip rows.slip_lines) (new ∷ []))
-    ∙ append_assoc (slip_lines_of slip rows) (slip_line_of new ∷ []) (side_lines is_new n ls)
+-- the lines of the sides of changes
+new_stored : (n : ℕ) (new : Option Record) → flat_map lines_in_side (new_sides_stored n new) ≡ new_side n new
+new_stored n None = refl
+new_stored n (Some r) = append-nil (side_lines true n (stored r))
 
-pub lines_elsewhere : (m slip : ℕ) (is_new : Bool) (n at : ℕ) (ls : List (ℕ × Label)) (rows : Rows) → slip ≢ m
-    → own (λ (s : SlipLineRow). s.slip) m (with_slip_lines slip is_new n at ls rows).slip_lines
-    ≡ own (λ (s : SlipLineRow). s.slip) m rows.slip_lines
-lines_elsewhere m slip is_new n at [] rows off = refl
-lines_elsewhere m slip is_new n at (l ∷ ls) rows off =
-    lines_elsewhere m slip is_new n (at + 1) ls (with_slip_line slip is_new n at l rows) off
-    ∙ more_elsewhere (λ (s : SlipLineRow). s.slip) m
-    (record {
-      id = next_key (λ (s : SlipLineRow). s.id) rows.slip_lines;
-      slip = slip;
-      is_new = is_new;
-      no = n;
-      at = at;
-      line = l;
-    }) rows.slip_lines off
+lines_stored : (cs : List Change) → flat_map lines_in_side (flat_map sides_stored cs) ≡ flat_map change_lines cs
+lines_stored [] = refl
+lines_stored (c ∷ cs) =
+    let old = side_lines false c.number (stored c.old) in
+    let new = new_sides_stored c.number c.new in
+    ap (λ (ks : List (Bool × (ℕ × (ℕ × Label)))). old ++ ks)
+    (flat_map-append lines_in_side new (flat_map sides_stored cs)
+    ∙ ap₂ (λ (ks ls : List (Bool × (ℕ × (ℕ × Label)))). ks ++ ls) (new_stored c.number c.new) (lines_stored cs))
+    ∙ sym (append_assoc old (new_side c.number c.new) (flat_map change_lines cs))
 
-pub lines_only : (slip : ℕ) (is_new : Bool) (n at : ℕ) (ls : List (ℕ × Label)) (rows : Rows)
-    → with_slip_lines slip is_new n at ls rows
-    ≡ record rows { slip_lines = (with_slip_lines slip is_new n at ls rows).slip_lines }
-lines_only slip is_new n at [] rows = refl
-lines_only slip is_new n at (l ∷ ls) rows = lines_only slip is_new n (at + 1) ls
-    (with_slip_line slip is_new n at l rows)
+-- the sides of a number among those that are put
+abbrev lines_in : SlipPackRow → List (Bool × (ℕ × (ℕ × Label)))
+lines_in s = lines_in_side s.side
 
--- the new side
-new_more : (slip n : ℕ) (new : Option Record) (rows : Rows) → slip_lines_of slip (with_new_side slip n new rows)
-    ≡ slip_lines_of slip rows ++ new_side n new
-new_more slip n None rows = sym (append-nil (slip_lines_of slip rows))
-new_more slip n (Some r) rows = lines_more slip true n 0 (stored r) rows
+abbrev slip_of : SlipPackRow → ℕ
+slip_of s = s.slip
 
-new_elsewhere : (m slip n : ℕ) (new : Option Record) (rows : Rows) → slip ≢ m
-    → own (λ (s : SlipLineRow). s.slip) m (with_new_side slip n new rows).slip_lines ≡ own
-    (λ (s : SlipLineRow). s.slip) m rows.slip_lines
-new_elsewhere m slip n None rows off = refl
-new_elsewhere m slip n (Some r) rows off = lines_elsewhere m slip true n 0 (stored r) rows off
+placed_own : (n at : ℕ) (ss : List SlipSide) → flat_map lines_in (own slip_of n (placed n at ss))
+    ≡ flat_map lines_in_side ss
+placed_own n at [] = refl
+placed_own n at (s ∷ ss) =
+    let same : (n == n) ≡ true = grind (arith, nat_tests) in
+    rw same (ap (λ (ks : List (Bool × (ℕ × (ℕ × Label)))). lines_in_side s ++ ks) (placed_own n (at + 1) ss))
 
-new_only : (slip n : ℕ) (new : Option Record) (rows : Rows) → with_new_side slip n new rows
-    ≡ record rows { slip_lines = (with_new_side slip n new rows).slip_lines }
-new_only slip n None rows = refl
-new_only slip n (Some r) rows = lines_only slip true n 0 (stored r) rows
+placed_elsewhere : (m n at : ℕ) (ss : List SlipSide) → n ≢ m → own slip_of m (placed n at ss) ≡ []
+placed_elsewhere m n at [] off = refl
+placed_elsewhere m n at (s ∷ ss) off = rw (is_not n m off) (placed_elsewhere m n (at + 1) ss off)
 
--- a change
-change_more : (slip : ℕ) (c : Change) (rows : Rows) → slip_lines_of slip (with_change slip c rows)
-    ≡ slip_lines_of slip rows ++ change_lines c
-change_more slip c rows =
-    new_more slip c.number c.new (with_slip_lines slip false c.number 0 (stored c.old) rows)
-    ∙ ap (λ (ks : List (Bool × (ℕ × (ℕ × Label)))). ks ++ new_side c.number c.new)
-    (lines_more slip false c.number 0 (stored c.old) rows)
-    ∙ append_assoc (slip_lines_of slip rows) (side_lines false c.number (stored c.old)) (new_side c.number c.new)
+-- of the number itself there is none before its place, and none behind
+none_before : (n : ℕ) (ss : List SlipPackRow) → own slip_of n (filter (λ (s : SlipPackRow). nat_lt s.slip n) ss) ≡ []
+none_before n [] = refl
+none_before n (s ∷ ss) =
+    elim (nat_lt s.slip n) as (λ b. nat_lt s.slip n ≡ b
+    → own slip_of n (cond b (s ∷ filter (λ (s : SlipPackRow). nat_lt s.slip n) ss)
+    (filter (λ (s : SlipPackRow). nat_lt s.slip n) ss)) ≡ []) [
+      | true ↦ λ e. let off : (s.slip == n) ≡ false = grind (arith, nat_tests, e) in rw off (none_before n ss)
+      | false ↦ λ e. none_before n ss
+    ] refl
 
-change_elsewhere : (m slip : ℕ) (c : Change) (rows : Rows) → slip ≢ m → own (λ (s : SlipLineRow). s.slip) m
-    (with_change slip c rows).slip_lines ≡ own (λ (s : SlipLineRow). s.slip) m rows.slip_lines
-change_elsewhere m slip c rows off =
-    new_elsewhere m slip c.number c.new (with_slip_lines slip false c.number 0 (stored c.old) rows) off
-    ∙ lines_elsewhere m slip false c.number 0 (stored c.old) rows off
+none_behind : (n : ℕ) (ss : List SlipPackRow) → own slip_of n (filter (λ (s : SlipPackRow). nat_lt n s.slip) ss) ≡ []
+none_behind n [] = refl
+none_behind n (s ∷ ss) =
+    elim (nat_lt n s.slip) as (λ b. nat_lt n s.slip ≡ b
+    → own slip_of n (cond b (s ∷ filter (λ (s : SlipPackRow). nat_lt n s.slip) ss)
+    (filter (λ (s : SlipPackRow). nat_lt n s.slip) ss)) ≡ []) [
+      | true ↦ λ e. let off : (s.slip == n) ≡ false = grind (arith, nat_tests, e) in rw off (none_behind n ss)
+      | false ↦ λ e. none_behind n ss
+    ] refl
 
-change_only : (slip : ℕ) (c : Change) (rows : Rows) → with_change slip c rows
-    ≡ record rows { slip_lines = (with_change slip c rows).slip_lines }
-change_only slip c rows =
-    new_only slip c.number c.new (with_slip_lines slip false c.number 0 (stored c.old) rows)
-    ∙ ap (λ (r : Rows). record r { slip_lines = (with_change slip c rows).slip_lines })
-    (lines_only slip false c.number 0 (stored c.old) rows)
+-- another number has all of its own on one side
+all_before : (m n : ℕ) → m < n → (ss : List SlipPackRow)
+    → own slip_of m (filter (λ (s : SlipPackRow). nat_lt s.slip n) ss) ≡ own slip_of m ss
+all_before m n low [] = refl
+all_before m n low (s ∷ ss) =
+    elim (s.slip == m) as (λ b. (s.slip == m) ≡ b
+    → own slip_of m (filter (λ (s : SlipPackRow). nat_lt s.slip n) (s ∷ ss))
+    ≡ cond b (s ∷ own slip_of m ss) (own slip_of m ss)) [
+      | true ↦ λ e. let here : nat_lt s.slip n ≡ true = grind (arith, nat_tests, low, e) in
+          rw (here, e) (ap (λ xs. s ∷ xs) (all_before m n low ss))
+      | false ↦ λ e. other e (nat_lt s.slip n) (all_before m n low ss)
+    ] refl
+  where
+    other : (s.slip == m) ≡ false → (b : Bool)
+        → own slip_of m (filter (λ (s : SlipPackRow). nat_lt s.slip n) ss) ≡ own slip_of m ss
+        → own slip_of m (cond b (s ∷ filter (λ (s : SlipPackRow). nat_lt s.slip n) ss)
+        (filter (λ (s : SlipPackRow). nat_lt s.slip n) ss)) ≡ own slip_of m ss
+    other e true ih = rw e ih
+    other e false ih = ih
 
--- all changes
-changes_more : (slip : ℕ) (cs : List Change) (rows : Rows) → slip_lines_of slip (with_slip_changes slip cs rows)
-    ≡ slip_lines_of slip rows ++ flat_map change_lines cs
-changes_more slip [] rows = sym (append-nil (slip_lines_of slip rows))
-changes_more slip (c ∷ cs) rows =
-    changes_more slip cs (with_change slip c rows)
-    ∙ ap (λ (ks : List (Bool × (ℕ × (ℕ × Label)))). ks ++ flat_map change_lines cs) (change_more slip c rows)
-    ∙ append_assoc (slip_lines_of slip rows) (change_lines c) (flat_map change_lines cs)
+none_of_before : (m n : ℕ) → n < m → (ss : List SlipPackRow)
+    → own slip_of m (filter (λ (s : SlipPackRow). nat_lt s.slip n) ss) ≡ []
+none_of_before m n high [] = refl
+none_of_before m n high (s ∷ ss) =
+    elim (nat_lt s.slip n) as (λ b. nat_lt s.slip n ≡ b
+    → own slip_of m (cond b (s ∷ filter (λ (s : SlipPackRow). nat_lt s.slip n) ss)
+    (filter (λ (s : SlipPackRow). nat_lt s.slip n) ss)) ≡ []) [
+      | true ↦ λ e. let off : (s.slip == m) ≡ false = grind (arith, nat_tests, e, high) in
+          rw off (none_of_before m n high ss)
+      | false ↦ λ e. none_of_before m n high ss
+    ] refl
 
-changes_elsewhere : (m slip : ℕ) (cs : List Change) (rows : Rows) → slip ≢ m → own (λ (s : SlipLineRow). s.slip) m
-    (with_slip_changes slip cs rows).slip_lines ≡ own (λ (s : SlipLineRow). s.slip) m rows.slip_lines
-changes_elsewhere m slip [] rows off = refl
-changes_elsewhere m slip (c ∷ cs) rows off = changes_elsewhere m slip cs (with_change slip c rows) off
-    ∙ change_elsewhere m slip c rows off
+all_behind : (m n : ℕ) → n < m → (ss : List SlipPackRow)
+    → own slip_of m (filter (λ (s : SlipPackRow). nat_lt n s.slip) ss) ≡ own slip_of m ss
+all_behind m n high [] = refl
+all_behind m n high (s ∷ ss) =
+    elim (s.slip == m) as (λ b. (s.slip == m) ≡ b
+    → own slip_of m (filter (λ (s : SlipPackRow). nat_lt n s.slip) (s ∷ ss))
+    ≡ cond b (s ∷ own slip_of m ss) (own slip_of m ss)) [
+      | true ↦ λ e. let here : nat_lt n s.slip ≡ true = grind (arith, nat_tests, high, e) in
+          rw (here, e) (ap (λ xs. s ∷ xs) (all_behind m n high ss))
+      | false ↦ λ e. other e (nat_lt n s.slip) (all_behind m n high ss)
+    ] refl
+  where
+    other : (s.slip == m) ≡ false → (b : Bool)
+        → own slip_of m (filter (λ (s : SlipPackRow). nat_lt n s.slip) ss) ≡ own slip_of m ss
+        → own slip_of m (cond b (s ∷ filter (λ (s : SlipPackRow). nat_lt n s.slip) ss)
+        (filter (λ (s : SlipPackRow). nat_lt n s.slip) ss)) ≡ own slip_of m ss
+    other e true ih = rw e ih
+    other e false ih = ih
 
-pub changes_only : (slip : ℕ) (cs : List Change) (rows : Rows) → with_slip_changes slip cs rows
-    ≡ record rows { slip_lines = (with_slip_changes slip cs rows).slip_lines }
-changes_only slip [] rows = refl
-changes_only slip (c ∷ cs) rows =
-    let after : Rows = with_change slip c rows in
-    changes_only slip cs after
-    ∙ ap (λ (r : Rows). record r { slip_lines = (with_slip_changes slip cs after).slip_lines })
-    (change_only slip c rows)
+none_of_behind : (m n : ℕ) → m < n → (ss : List SlipPackRow)
+    → own slip_of m (filter (λ (s : SlipPackRow). nat_lt n s.slip) ss) ≡ []
+none_of_behind m n low [] = refl
+none_of_behind m n low (s ∷ ss) =
+    elim (nat_lt n s.slip) as (λ b. nat_lt n s.slip ≡ b
+    → own slip_of m (cond b (s ∷ filter (λ (s : SlipPackRow). nat_lt n s.slip) ss)
+    (filter (λ (s : SlipPackRow). nat_lt n s.slip) ss)) ≡ []) [
+      | true ↦ λ e. let off : (s.slip == m) ≡ false = grind (arith, nat_tests, e, low) in
+          rw off (none_of_behind m n low ss)
+      | false ↦ λ e. none_of_behind m n low ss
+    ] refl
+
+-- what is there of a number when sides are put between those before and behind
+cut : (m : ℕ) (xs ys zs : List SlipPackRow) → own slip_of m (xs ++ (ys ++ zs))
+    ≡ own slip_of m xs ++ (own slip_of m ys ++ own slip_of m zs)
+cut m xs ys zs = filter-append (λ (s : SlipPackRow). s.slip == m) xs (ys ++ zs)
+    ∙ ap (λ (ps : List SlipPackRow). own slip_of m xs ++ ps) (filter-append (λ (s : SlipPackRow). s.slip == m) ys zs)
+
+put_own : (n : ℕ) (sides : List SlipSide) (rows : Rows)
+    → flat_map lines_in (own slip_of n (with_slip_sides n sides rows).slip_packs) ≡ flat_map lines_in_side sides
+put_own n sides rows =
+    let first = filter (λ (s : SlipPackRow). nat_lt s.slip n) rows.slip_packs in
+    let last = filter (λ (s : SlipPackRow). nat_lt n s.slip) rows.slip_packs in
+    let mine = own slip_of n (placed n 0 sides) in
+    ap (flat_map lines_in) (cut n first (placed n 0 sides) last
+    ∙ ap₂ (λ (xs zs : List SlipPackRow). xs ++ (mine ++ zs)) (none_before n rows.slip_packs)
+    (none_behind n rows.slip_packs) ∙ append-nil mine)
+    ∙ placed_own n 0 sides
+
+put_others : (m n : ℕ) (sides : List SlipSide) (rows : Rows) → n ≢ m
+    → own slip_of m (with_slip_sides n sides rows).slip_packs ≡ own slip_of m rows.slip_packs
+put_others m n sides rows off =
+    let first = filter (λ (s : SlipPackRow). nat_lt s.slip n) rows.slip_packs in
+    let last = filter (λ (s : SlipPackRow). nat_lt n s.slip) rows.slip_packs in
+    let mine = placed_elsewhere m n 0 sides off in
+    cut m first (placed n 0 sides) last
+    ∙ ap (λ (ys : List SlipPackRow). own slip_of m first ++ (ys ++ own slip_of m last)) mine
+    ∙ (elim (apart m n off) [
+      | inl low ↦ ap₂ (λ (xs ys : List SlipPackRow). xs ++ ys) (all_before m n low rows.slip_packs)
+          (none_of_behind m n low rows.slip_packs) ∙ append-nil (own slip_of m rows.slip_packs)
+      | inr high ↦ ap₂ (λ (xs ys : List SlipPackRow). xs ++ ys) (none_of_before m n high rows.slip_packs)
+          (all_behind m n high rows.slip_packs)
+    ])
+  where
+    apart : (m n : ℕ) → n ≢ m → (m < n) ⊎ (n < m)
+    apart m n off = elim (nat_cmp m n) as (λ o. nat_cmp m n ≡ o → (m < n) ⊎ (n < m)) [
+      | Less ↦ λ e. inl (grind (arith, nat_tests, e))
+      | Equal ↦ λ e. absurd (off (grind (arith, nat_tests, e)))
+      | Greater ↦ λ e. inr (grind (arith, nat_tests, e))
+    ] refl
+
+-- the lines of a number where the sides of one are put
+pub sides_put : (n k : ℕ) (sides : List SlipSide) (rows : Rows) → slip_lines_of n (with_slip_sides k sides rows)
+    ≡ cond (k == n) (flat_map lines_in_side sides) (slip_lines_of n rows)
+sides_put n k sides rows =
+    elim (k == n) as (λ b. (k == n) ≡ b → slip_lines_of n (with_slip_sides k sides rows)
+    ≡ cond b (flat_map lines_in_side sides) (slip_lines_of n rows)) [
+      | true ↦ λ e. ap (λ j. slip_lines_of n (with_slip_sides j sides rows)) (it k n e)
+          ∙ ap₂ (λ (ls : List SlipLineRow) (ks : List (Bool × (ℕ × (ℕ × Label)))). map slip_line_of ls ++ ks)
+          (none_left (λ (s : SlipLineRow). s.slip) n rows.slip_lines) (put_own n sides rows)
+      | false ↦ λ e. ap₂
+          (λ (ls : List SlipLineRow) (ps : List SlipPackRow). map slip_line_of ls ++ flat_map lines_in ps)
+          (others_left (λ (s : SlipLineRow). s.slip) n k rows.slip_lines (not_it k n e))
+          (put_others n k sides rows (not_it k n e))
+    ] refl
 
 -- ---- a slip that is made
-pub made_only : (n : ℕ) (slip : Slip) (rows : Rows) → with_slip_made n slip rows
-    ≡ record rows {
-      slips = put_by (λ (s : SlipRow). s.no) (slip_row n slip) rows.slips;
-      slip_lines = (with_slip_made n slip rows).slip_lines;
-    }
-made_only n slip rows = changes_only n slip.changes
-    (without_slip_lines n (with_slip_row n slip.keep slip.gone slip.is_undone rows))
-
 lines_made : (n k : ℕ) (slip : Slip) (rows : Rows) → slip_lines_of n (with_slip_made k slip rows)
     ≡ cond (k == n) (flat_map change_lines slip.changes) (slip_lines_of n rows)
 lines_made n k slip rows =
-    elim (k == n) as (λ b. (k == n) ≡ b → slip_lines_of n (with_slip_made k slip rows) ≡ cond b
-    (flat_map change_lines slip.changes) (slip_lines_of n rows)) [
-      | true ↦ λ e. ap (λ j. slip_lines_of n (with_slip_made j slip rows)) (it k n e)
-          ∙ changes_more n slip.changes (without_slip_lines n (with_slip_row n slip.keep slip.gone slip.is_undone rows))
-          ∙ ap (λ (ss : List SlipLineRow). map slip_line_of ss ++ flat_map change_lines slip.changes)
-          (none_left (λ (s : SlipLineRow). s.slip) n rows.slip_lines)
-      | false ↦ λ e. ap (map slip_line_of)
-          (changes_elsewhere n k slip.changes
-          (without_slip_lines k (with_slip_row k slip.keep slip.gone slip.is_undone rows)) (not_it k n e)
-          ∙ others_left (λ (s : SlipLineRow). s.slip) n k rows.slip_lines (not_it k n e))
-    ] refl
+    sides_put n k (flat_map sides_stored slip.changes) (with_slip_row k slip.keep slip.gone slip.is_undone rows)
+    ∙ ap (λ ls. cond (k == n) ls (slip_lines_of n rows)) (lines_stored slip.changes)
 
 -- what slip is at a number that has this row and these lines
 abbrev pub IsSlipOf : ℕ → Option SlipRow → List (Bool × (ℕ × (ℕ × Label))) → Option Slip → Type 0

@@ -1,9 +1,8 @@
 -- Changes leave the spans, the links and what is looked for, and these change nothing else.
-use Rattle.std.proofs.Common.{◌≡◌, ℕ, ◌+◌, Bool, true, false, List, [], ◌∷◌, inl, inr, refl, sym, ap, subst, ◌∙◌}
+use Rattle.std.proofs.Common.{◌≡◌, ℕ, Bool, List, [], ◌∷◌, inl, inr, refl, sym, ap, subst, ◌∙◌}
 use Rattle.std.specs.Prelude.{Option, Some, None}
 use Rattle.stored_lines.specs.Line.{Label}
 use Rattle.gedcom_date.specs.declared.value.Span.{Span}
-use Rattle.record_kinds.specs.declared.record.Record.{Record}
 use Rattle.records.specs.Stored.{stored}
 use Rattle.archive_state.specs.Applied.{applied, with_puts}
 use Rattle.archive_state.specs.Changes.{Changes}
@@ -12,7 +11,6 @@ use Rattle.archive_state.specs.declared.changes.Kept.{Kept}
 use Rattle.archive_state.specs.declared.changes.Numbered.{Numbered}
 use Rattle.archive_state.specs.declared.changes.SlipChange.{SlipChange}
 use Rattle.archive_state.specs.declared.changes.SlipChange.TheVariants as change
-use Rattle.archive_state.specs.declared.slip.Change.{Change}
 use Rattle.std.specs.FinMap.{get}
 use Rattle.store_tables.specs.Rows.{
   Rows,
@@ -22,12 +20,8 @@ use Rattle.store_tables.specs.Rows.{
   with_changed_lines,
   with_next,
   with_record_row,
-  with_slip_line,
-  with_slip_lines,
-  with_slip_row,
   without_lines,
   without_record_row,
-  without_slip_lines,
   without_sought,
   without_span,
 }
@@ -58,13 +52,10 @@ use Rattle.store_rows.specs.Spans.{
 use Rattle.store_rows.specs.Writing.{
   kind_word,
   with_all_lines,
-  with_change,
   with_changes,
   with_kept_written,
-  with_new_side,
   with_puts_written,
   with_record_rows,
-  with_slip_changes,
   with_slip_written,
   without_all_lines,
   without_record_rows,
@@ -73,7 +64,6 @@ use Rattle.store_rows.specs.Writing.{
 use Rattle.store_rows.proofs.Got.{got_puts, got_without}
 use Rattle.store_rows.proofs.Meaning.{puts_only, removed_only}
 use Rattle.store_rows.proofs.Puts.{last_of}
-use Rattle.store_rows.proofs.Slips.{made_only}
 use Rattle.store_rows.proofs.LinksRead.{linked_left, linked_puts}
 use Rattle.store_rows.proofs.SoughtRead.{sought_left, sought_puts}
 use Rattle.store_rows.proofs.SpansRead.{gone_or_left, spanned, spans_drawn, spans_removed}
@@ -88,7 +78,7 @@ kept_head (Some kept) rows = refl
 
 slip_head : (slip : Option SlipChange) (rows : Rows) → head (with_slip_written slip rows) ≡ head rows
 slip_head None rows = refl
-slip_head (Some (change.Made n slip)) rows = ap head (made_only n slip rows)
+slip_head (Some (change.Made n slip)) rows = refl
 slip_head (Some (change.Undone n)) rows = refl
 
 pub changes_head : (changes : Changes) (rows : Rows) → head (with_changes changes rows) ≡ head rows
@@ -98,6 +88,15 @@ changes_head changes rows =
     let kept : Rows = with_kept_written changes.kept next in
     slip_head changes.slip kept ∙ kept_head changes.kept next ∙ ap head (removed_only changes.removals put)
     ∙ ap head (puts_only changes.puts rows)
+
+-- all but the slip leaves the schema
+pub still : (puts : List Numbered) (removals : List ℕ) (next : ℕ) (kept : Option Kept) (rows : Rows)
+    → (with_kept_written kept (with_next next (without_records removals (with_puts_written puts rows)))).has_spans
+    ≡ rows.has_spans
+still puts removals next kept rows =
+    let put : Rows = with_puts_written puts rows in
+    ap (λ t. t.1.0) (kept_head kept (with_next next (without_records removals put))
+    ∙ ap head (removed_only removals put) ∙ ap head (puts_only puts rows))
 
 -- ---- rows with other tables of the second schema, changed: the rows changed, with these
 module _ (ss : List SpanRow) (ls : List LinkRow) (qs : List SoughtRow) where
@@ -129,32 +128,10 @@ module _ (ss : List SpanRow) (ls : List LinkRow) (qs : List SoughtRow) where
   kept_aside None rows = refl
   kept_aside (Some kept) rows = refl
 
-  side_aside : (slip : ℕ) (is_new : Bool) (n at : ℕ) (ls : List (ℕ × Label)) (rows : Rows)
-      → with_slip_lines slip is_new n at ls (aside rows) ≡ aside (with_slip_lines slip is_new n at ls rows)
-  side_aside slip is_new n at [] rows = refl
-  side_aside slip is_new n at (l ∷ ls) rows = side_aside slip is_new n (at + 1) ls
-      (with_slip_line slip is_new n at l rows)
-
-  new_aside : (slip n : ℕ) (new : Option Record) (rows : Rows) → with_new_side slip n new (aside rows)
-      ≡ aside (with_new_side slip n new rows)
-  new_aside slip n None rows = refl
-  new_aside slip n (Some r) rows = side_aside slip true n 0 (stored r) rows
-
-  changes_aside : (slip : ℕ) (cs : List Change) (rows : Rows) → with_slip_changes slip cs (aside rows)
-      ≡ aside (with_slip_changes slip cs rows)
-  changes_aside slip [] rows = refl
-  changes_aside slip (c ∷ cs) rows =
-      let old : Rows = with_slip_lines slip false c.number 0 (stored c.old) rows in
-      ap (λ r. with_slip_changes slip cs (with_new_side slip c.number c.new r))
-      (side_aside slip false c.number 0 (stored c.old) rows)
-      ∙ ap (with_slip_changes slip cs) (new_aside slip c.number c.new old)
-      ∙ changes_aside slip cs (with_change slip c rows)
-
   slip_aside : (slip : Option SlipChange) (rows : Rows) → with_slip_written slip (aside rows)
       ≡ aside (with_slip_written slip rows)
   slip_aside None rows = refl
-  slip_aside (Some (change.Made n slip)) rows = changes_aside n slip.changes
-      (without_slip_lines n (with_slip_row n slip.keep slip.gone slip.is_undone rows))
+  slip_aside (Some (change.Made n slip)) rows = refl
   slip_aside (Some (change.Undone n)) rows = refl
 
   pub all_aside : (changes : Changes) (rows : Rows) → with_changes changes (aside rows)

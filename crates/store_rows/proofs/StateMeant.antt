@@ -23,12 +23,26 @@ use Rattle.std.proofs.Common.{
 use Rattle.std.specs.Prelude.{Option, Some, None, ◌==◌, ◌&&◌, ◌||◌, map, filter, fold}
 use Rattle.std.specs.List.{list_any, flat_map}
 use Rattle.std.specs.FinMap.{get, insert, empty}
+use Rattle.std.proofs.lemmas.List.{map-append}
+use Rattle.std.proofs.lemmas.List.Elements.{filter-append}
 use Rattle.stored_lines.specs.Line.{Label}
 use Rattle.record_kinds.specs.declared.record.Record.{Record}
 use Rattle.records.specs.Shallow.{IsShallow}
 use Rattle.archive_state.specs.Content.{Content, Receipts, nothing}
 use Rattle.archive_state.specs.Slips.{Slip}
-use Rattle.store_tables.specs.Rows.{Rows, RecordRow, LineRow, PackRow, ReceiptRow, SlipLineRow, lines_of, slip_line_of}
+use Rattle.store_tables.specs.Rows.{
+  Rows,
+  RecordRow,
+  LineRow,
+  PackRow,
+  ReceiptRow,
+  SlipLineRow,
+  SlipPackRow,
+  lines_in_side,
+  lines_of,
+  slip_line_of,
+  slip_lines_of,
+}
 use Rattle.store_tables.specs.Reading.{
   ReadRows,
   read_of,
@@ -36,7 +50,10 @@ use Rattle.store_tables.specs.Reading.{
   read_line,
   read_pack,
   read_receipt,
+  read_sides,
   read_slip_line,
+  read_slip_pack,
+  lines_in_pack,
 }
 use Rattle.store_rows.specs.Meaning.{is_closed, slip_row_at, IsRecordAt, IsSlipAt, IsShallowSlip, Means, AreReadable}
 use Rattle.store_rows.specs.Sides.{SideLine}
@@ -87,10 +104,10 @@ pub stored_same : (n : ℕ) (rows : Rows) → stored_at (map read_line rows.line
     ≡ lines_of n rows
 stored_same n rows = ap₂ (λ ls ms. ls ++ ms) (lines_same n rows.lines) (packs_same n rows.packs)
 
-pub slip_lines_same : (n : ℕ) (ls : List SlipLineRow) → items_at n (map read_slip_line ls) ≡ map slip_line_of
+lines_of_slip : (n : ℕ) (ls : List SlipLineRow) → items_at n (map read_slip_line ls) ≡ map slip_line_of
     (filter (λ (s : SlipLineRow). s.slip == n) ls)
-slip_lines_same n [] = refl
-slip_lines_same n (l ∷ ls) = go (l.slip == n) (slip_lines_same n ls)
+lines_of_slip n [] = refl
+lines_of_slip n (l ∷ ls) = go (l.slip == n) (lines_of_slip n ls)
   where
     go : (b : Bool) → items_at n (map read_slip_line ls) ≡ map slip_line_of
         (filter (λ (s : SlipLineRow). s.slip == n) ls)
@@ -101,6 +118,42 @@ slip_lines_same n (l ∷ ls) = go (l.slip == n) (slip_lines_same n ls)
         (filter (λ (s : SlipLineRow). s.slip == n) ls))
     go true e = ap (λ t. slip_line_of l ∷ t) e
     go false e = e
+
+both_at : (n : ℕ) (ps qs : List (ℕ × SideLine)) → items_at n (ps ++ qs) ≡ items_at n ps ++ items_at n qs
+both_at n ps qs =
+    let own = filter (λ (p : ℕ × SideLine). p.0 == n) in
+    ap (map (λ (p : ℕ × SideLine). p.1)) (filter-append (λ (p : ℕ × SideLine). p.0 == n) ps qs)
+    ∙ map-append (λ (p : ℕ × SideLine). p.1) (own ps) (own qs)
+
+-- the lines of one side, each with the slip
+one_at : (n k : ℕ) (ls : List SideLine) (b : Bool) → (k == n) ≡ b → items_at n (map (λ (l : SideLine). (k, l)) ls)
+    ≡ cond b ls []
+one_at n k [] true e = refl
+one_at n k [] false e = refl
+one_at n k (l ∷ ls) true e = rw e (ap (λ (ks : List SideLine). l ∷ ks) (one_at n k ls true e))
+one_at n k (l ∷ ls) false e = rw e (one_at n k ls false e)
+
+sides_at : (n : ℕ) (ss : List SlipPackRow) → items_at n (flat_map lines_in_pack (map read_slip_pack ss))
+    ≡ flat_map (λ (s : SlipPackRow). lines_in_side s.side) (filter (λ (s : SlipPackRow). s.slip == n) ss)
+sides_at n [] = refl
+sides_at n (s ∷ ss) =
+    let lines = lines_in_side s.side in
+    both_at n (lines_in_pack (read_slip_pack s)) (flat_map lines_in_pack (map read_slip_pack ss))
+    ∙ ap₂ (λ (ks ls : List SideLine). ks ++ ls) (one_at n s.slip lines (s.slip == n) refl) (sides_at n ss)
+    ∙ go (s.slip == n)
+  where
+    go : (b : Bool) → cond b (lines_in_side s.side) []
+        ++ flat_map (λ (s : SlipPackRow). lines_in_side s.side) (filter (λ (s : SlipPackRow). s.slip == n) ss)
+        ≡ flat_map (λ (s : SlipPackRow). lines_in_side s.side)
+        (cond b (s ∷ filter (λ (s : SlipPackRow). s.slip == n) ss) (filter (λ (s : SlipPackRow). s.slip == n) ss))
+    go true = refl
+    go false = refl
+
+-- the lines of a slip, of either schema
+pub slip_lines_same : (n : ℕ) (rows : Rows) → items_at n (read_sides rows) ≡ slip_lines_of n rows
+slip_lines_same n rows =
+    both_at n (map read_slip_line rows.slip_lines) (flat_map lines_in_pack (map read_slip_pack rows.slip_packs))
+    ∙ ap₂ (λ (ks ls : List SideLine). ks ++ ls) (lines_of_slip n rows.slip_lines) (sides_at n rows.slip_packs)
 
 pub recorded_same : (closed : ℕ → Bool) (n : ℕ) (rs : List RecordRow) → is_recorded closed (map read_record rs) n
     ≡ list_any (λ (r : RecordRow). (r.no == n) && closed r.batch) rs
@@ -130,7 +183,7 @@ means_of rows c reads = record {
   next = reads.next;
   receipts = reads.receipts ∙ kept_same empty rows.receipts;
   slips = λ n. subst (λ ls. IsSlipBy n (slip_row_at n rows.slips) ls (get c.slips n))
-      (slip_lines_same n rows.slip_lines) (reads.slips n);
+      (slip_lines_same n rows) (reads.slips n);
 }
 
 pub meant : (rows : Rows) (read : ReadRows) (c : Content) → read_of rows ≡ read → ReadsAs read c → Means rows c
@@ -171,13 +224,13 @@ no_record rows (n, there, none) readable = go (get readable.0.records n) (λ r. 
         rows.records ∙ absent in absurd cc
     go (Some r) shallow is = none r (shallow r refl) (stored_same n rows ∙ is.1)
 
-no_slip : (rows : Rows) → LacksChanges rows.slips (λ n. items_at n (map read_slip_line rows.slip_lines))
+no_slip : (rows : Rows) → LacksChanges rows.slips (λ n. items_at n (read_sides rows))
     → AreReadable rows → ⊥
 no_slip rows (n, there, none) readable = go (get readable.0.slips n) (λ s. readable.2.slips n s) (readable.1.slips n)
   where
     go : (found : Option Slip) → ((s : Slip) → found ≡ Some s → IsShallowSlip s) → IsSlipAt rows n found → ⊥
     go None shallow absent = there absent
-    go (Some s) shallow is = none s.changes (shallow s refl) (slip_lines_same n rows.slip_lines ∙ is.1)
+    go (Some s) shallow is = none s.changes (shallow s refl) (slip_lines_same n rows ∙ is.1)
 
 -- the same of what is read of them
 pub no_records : (rows : Rows) (read : ReadRows) → read_of rows ≡ read → (is_closed 0 read.batches ≡ false)

@@ -34,7 +34,6 @@ use Rattle.store_rows.specs.Writing.{
 use Rattle.store_rows.proofs.Meaning.{puts_only, removed_only}
 use Rattle.store_rows.proofs.Own.{own, put_elsewhere, others_left}
 use Rattle.store_rows.proofs.Puts.{changed_elsewhere, packs_elsewhere, rows_put_only, lines_removed_only}
-use Rattle.store_rows.proofs.Slips.{made_only}
 
 abbrev lines_at : ℕ → Rows → List LineRow
 lines_at m rows = own (λ (l : LineRow). l.no) m rows.lines
@@ -119,11 +118,7 @@ kept_stays m (Some kept) rows = record { lines = refl; packs = refl; records = r
 
 slip_stays : (m : ℕ) (slip : Option SlipChange) (rows : Rows) → Stay m rows (with_slip_written slip rows)
 slip_stays m None rows = record { lines = refl; packs = refl; records = refl }
-slip_stays m (Some (change.Made n slip)) rows = record {
-  lines = ap (lines_at m) (made_only n slip rows);
-  packs = ap (packs_at m) (made_only n slip rows);
-  records = ap (records_at m) (made_only n slip rows);
-}
+slip_stays m (Some (change.Made n slip)) rows = record { lines = refl; packs = refl; records = refl }
 slip_stays m (Some (change.Undone n)) rows = record { lines = refl; packs = refl; records = refl }
 
 pub others_stay : (changes : Changes) (rows : Rows) (m : ℕ) → EachOf (λ (p : Numbered). p.number ≢ m) changes.puts

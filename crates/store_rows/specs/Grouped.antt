@@ -61,6 +61,10 @@ slip_group_at groups n = side_lines_in (group_at groups n)
 abbrev pub is_recorded : (ℕ → Bool) → List (ℕ × ℕ) → ℕ → Bool
 is_recorded closed rows n = list_any (λ (r : ℕ × ℕ). (r.0 == n) && closed r.1) rows
 
+-- the numbers of the rows in these batches, in the order of the rows
+abbrev pub numbers_by : (ℕ → Bool) → List (ℕ × ℕ) → List ℕ
+numbers_by closed rows = map (λ (r : ℕ × ℕ). r.0) (filter (λ (r : ℕ × ℕ). closed r.1) rows)
+
 -- what is at a number with these lines
 abbrev pub IsKeptAs : Bool → List (ℕ × Label) → Option Record → Type 0
 IsKeptAs is_there lines found = MatchOption found (is_there ≡ false) (λ r. (is_there ≡ true) × (lines ≡ stored r))

@@ -1,5 +1,5 @@
 -- What the changes of a request make of the rows, as one statement after the other does it.
-use Rattle.std.specs.Prelude.{ℕ, true, false, List, [], ◌∷◌, Option, Some, None, codes}
+use Rattle.std.specs.Prelude.{ℕ, true, false, List, [], ◌∷◌, flat_map, Option, Some, None, codes}
 use Rattle.record_kinds.specs.declared.record.Record.{Record}
 use Rattle.record_kinds.specs.declared.record.Record.TheVariants as kind
 use Rattle.records.specs.Stored.{stored}
@@ -20,9 +20,9 @@ use Rattle.store_tables.specs.Rows.{
   with_receipt,
   with_slip_row,
   with_undone,
-  without_slip_lines,
-  with_slip_lines,
+  SlipSide,
 }
+use Rattle.store_tables.specs.Sides.{with_slip_sides}
 
 -- the word of a kind
 abbrev pub kind_word : Record → List ℕ
@@ -65,22 +65,18 @@ abbrev pub with_kept_written : Option Kept → Rows → Rows
 with_kept_written None rows = rows
 with_kept_written (Some kept) rows = with_receipt kept.token kept.receipt rows
 
--- the lines of a slip's changes
-abbrev pub with_new_side : ℕ → ℕ → Option Record → Rows → Rows
-with_new_side slip n None rows = rows
-with_new_side slip n (Some r) rows = with_slip_lines slip true n 0 (stored r) rows
+-- the sides of a change, each with what is stored of its record: the old one, and then the new one, where there is one
+abbrev pub new_sides_stored : ℕ → Option Record → List SlipSide
+new_sides_stored n None = []
+new_sides_stored n (Some r) = (true, (n, stored r)) ∷ []
 
-abbrev pub with_change : ℕ → Change → Rows → Rows
-with_change slip c rows = with_new_side slip c.number c.new (with_slip_lines slip false c.number 0 (stored c.old) rows)
+abbrev pub sides_stored : Change → List SlipSide
+sides_stored c = (false, (c.number, stored c.old)) ∷ new_sides_stored c.number c.new
 
-abbrev pub with_slip_changes : ℕ → List Change → Rows → Rows
-with_slip_changes slip [] rows = rows
-with_slip_changes slip (c ∷ cs) rows = with_slip_changes slip cs (with_change slip c rows)
-
--- a slip's row, and its lines in place of those that its number had
+-- a slip's row, and the sides of its changes in place of those that its number had
 abbrev pub with_slip_made : ℕ → Slip → Rows → Rows
-with_slip_made n slip rows = with_slip_changes n slip.changes
-    (without_slip_lines n (with_slip_row n slip.keep slip.gone slip.is_undone rows))
+with_slip_made n slip rows = with_slip_sides n (flat_map sides_stored slip.changes)
+    (with_slip_row n slip.keep slip.gone slip.is_undone rows)
 
 abbrev pub with_slip_written : Option SlipChange → Rows → Rows
 with_slip_written None rows = rows

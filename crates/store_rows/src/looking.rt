@@ -1,7 +1,9 @@
 //! Single records, receipts and slips of an archive, each read of its own rows.
 
-ghost use Rattle.std.specs.Prelude.{◌≡◌, ◌++◌, ◌∷◌, [], false, OnOk};
+ghost use Rattle.std.specs.Prelude.{◌≡◌, ◌++◌, ◌∷◌, [], false, IfOk, OnOk};
+ghost use Rattle.std.specs.BTreeSet as set;
 ghost use Rattle.std.specs.FinMap as map;
+ghost use Rattle.std.specs.Ordering.{nat_cmp};
 ghost use Rattle.sqlite.specs.Held.{state};
 ghost use Rattle.archive_state.specs.Entries.{IsEntryAt};
 ghost use Rattle.archive_state.specs.Paths.{HasPath, IsLowest};
@@ -9,11 +11,12 @@ ghost use Rattle.archive_state.specs.Referrers.{referrers};
 ghost use Rattle.store_tables.specs.Looking.{Looks};
 ghost use Rattle.store_rows.specs.Links.{KeepsLinks, linked_naming, names_at};
 ghost use Rattle.store_rows.specs.Looking.{Sees, SeesBy};
-ghost use Rattle.store_rows.specs.Grouped.{last_kept};
+ghost use Rattle.store_rows.specs.Grouped.{last_kept, numbers_by};
 ghost use Rattle.store_rows.specs.Meaning.{has_record, is_closed};
 ghost use Rattle.store_rows.specs.Sought.{KeepsSought};
 
 use crate::finding;
+use crate::grouping::closed_batches;
 use crate::sides::changes_of;
 use archive_state::Slip;
 use receipts::{Receipt, Token};
@@ -22,7 +25,10 @@ use record_text::{RefusalKind, Text};
 use records::{EntryKind, Item, Record, entry_key, record_of};
 use sqlite::{Alter, Connection};
 use std::alloc::{AllocError, Global};
-use store_tables::{LinkRow, ReceiptRow, keyed, links, soughts};
+use std::collections::BTreeSet;
+use store_tables::{
+    LinkRow, ReceiptRow, RecordRow, keyed, links, read_records_by_batch, sides, soughts,
+};
 
 /// The record of a number, read of the rows of this number alone. No transaction may be open.
 ///
@@ -43,6 +49,38 @@ pub fn record_at<S: Alter>(
     }
     let lines = keyed::lines_at(alloc, conn, number)?;
     Ok(Some(record_of(alloc, &lines)?))
+}
+
+/// The numbers of all records, ascending, read of the rows of `record` and of the batches: one number a row is kept.
+pub fn record_numbers<S: Alter>(
+    alloc: Global,
+    conn: &mut Connection<S>,
+) -> Result<Vec<u32>, RefusalKind>
+    requires autocommit { conn.old.in_transaction ≡ false }
+    ensures sees { Sees (λ c found. found.items ≡ map.keys c.records) (state S.Store conn.old)
+        (state S.Store conn.new) result }
+    ensures ended { conn.new.in_transaction ≡ false }
+{
+    let (batches, rows) = read_records_by_batch(alloc, conn)?;
+    let closed = closed_batches(alloc, &batches)?;
+    Ok(numbers_in(alloc, &closed, &rows)?)
+}
+
+/// The numbers of the rows in these batches, in their order.
+fn numbers_in(
+    alloc: Global,
+    closed: &BTreeSet<u32>,
+    rows: &[RecordRow],
+) -> Result<Vec<u32>, AllocError>
+    ensures { IfOk result (λ found. found.items ≡ numbers_by (set.contains nat_cmp closed.now) rows.now) }
+{
+    let mut found = Vec::new(alloc);
+    'rows: for row in rows {
+        if closed.contains(&row.batch) {
+            found.push(row.number)?;
+        }
+    }
+    Ok(found)
 }
 
 /// The numbers of the records that name a number, ascending, read of the links to it and of the records that these are
@@ -138,7 +176,7 @@ pub fn slip_at<S: Alter>(
     let Some(row) = keyed::slip_at(alloc, conn, number)? else {
         return Ok(None);
     };
-    let lines = keyed::slip_lines_at(alloc, conn, number)?;
+    let lines = sides::slip_lines_at(alloc, conn, number)?;
     Ok(Some(Slip {
         keep: row.keep,
         gone: row.gone,

@@ -146,7 +146,7 @@ fn write_all<S: Alter>(
     changes: &Changes,
 ) -> Result<(), Unwritten>
     ensures same_reference { tx.new.conn.ghost_name ≡ tx.old.conn.ghost_name }
-    ensures ok { Writes (state S.Store tx.old.conn.now) (state S.Store tx.new.conn.now)
+    ensures ok { WritesDated (state S.Store tx.old.conn.now) (state S.Store tx.new.conn.now)
         result (with_changes changes.now) }
     ensures survives { LeavesAsBefore (state S.Store tx.old.conn.now) (state S.Store tx.new.conn.now) }
     ensures shallow { OnOk result (AreShallowChanges changes.now) }

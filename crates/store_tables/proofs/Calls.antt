@@ -24,12 +24,10 @@ use Rattle.std.proofs.Common.{
   inl,
   ◌∙◌,
   arith,
-  Bor,
   Option,
   None,
   Some,
   pos,
-  option_copied,
 }
 use Rattle.std.specs.List.{AllByRecursion}
 use Rattle.sqlite.specs.declared.types.Value.TheVariants.{Text, Int}
@@ -47,7 +45,7 @@ use Rattle.record_text.specs.Text.{IsText}
 use Rattle.store_tables.specs.Calls.{Good, Inside, Follows, Built, Builds, Settled}
 use Rattle.store_tables.specs.Creating.{IsCreate, IsCreateIndex}
 use Rattle.store_tables.specs.Reading.{AreTyped}
-use Rattle.store_tables.specs.Rows.{Rows, bare_first, words_or_null, number_or_null}
+use Rattle.store_tables.specs.Rows.{Rows, bare_first, number_or_null}
 use Rattle.store_tables.specs.Schema.{archive_schema, all_tables}
 use Rattle.store_tables.proofs.Created.{creates, creates_index}
 use Rattle.store_tables.proofs.Statements.{Becomes, inserts_meta}
@@ -96,11 +94,6 @@ follows_then a b c f g p q rows was =
     (two.0, two.1 ∙ one.1)
 
 -- ---- what may be missing, as it is bound
-pub words_bound : (o : Option (Bor (List ℕ))) → bound_value (or_null (λ (t : Bor (List ℕ)). Text t.now) o)
-    ≡ words_or_null (option_copied o)
-words_bound None = refl
-words_bound (Some t) = refl
-
 pub number_bound : (o : Option ℕ) → bound_value (or_null (λ (n : ℕ). Int (pos n)) o) ≡ number_or_null o
 number_bound None = refl
 number_bound (Some n) = refl
@@ -170,6 +163,7 @@ begins society old new count text ran was =
       receipts = tt;
       slips = tt;
       slip_lines = tt;
+      slip_packs = tt;
       spans = tt;
       links = tt;
       soughts = tt;

@@ -48,17 +48,15 @@ use Rattle.store_tables.specs.Rows.{
   RecordRow,
   ReceiptRow,
   SlipRow,
-  SlipLineRow,
   Holds,
   Keeps,
   batch_values,
   record_values,
   receipt_values,
   slip_values,
-  slip_line_values,
 }
 use Rattle.store_tables.specs.Schema.{archive_schema}
-use Rattle.store_tables.specs.Shown.{shown_batch, shown_record, shown_receipt, shown_slip, shown_slip_line}
+use Rattle.store_tables.specs.Shown.{shown_batch, shown_record, shown_receipt, shown_slip}
 use Rattle.store_tables.proofs.Changing.{at_key}
 use Rattle.store_tables.proofs.Coded.{int_order, less, same_int, still_ascends}
 use Rattle.store_tables.proofs.Finding.{simple, in_order}
@@ -82,10 +80,6 @@ use Rattle.store_tables.proofs.KeyedTexts.{
   slip_at_is,
   slip_at_plain,
   slip_at_unlisted,
-  slip_lines_at,
-  slip_lines_at_is,
-  slip_lines_at_plain,
-  slip_lines_at_unlisted,
 }
 
 -- the rows of a table that pass the tests, in the order of its key
@@ -147,11 +141,6 @@ slip_passes : (n : ℕ) (x : SlipRow) → list_all (holds ((Int (pos n) ∷ []) 
 unfolding binary
 slip_passes n x = ap (λ b. is_true (from_truth (Some b)) && true) (same_int x.no n) ∙ truth_of (x.no == n)
 
-slip_line_passes : (n : ℕ) (x : SlipLineRow) → list_all (holds ((Int (pos n) ∷ []) ∷ slip_line_values x ∷ []))
-    (with_key 2) ≡ (x.slip == n)
-unfolding binary
-slip_line_passes n x = ap (λ b. is_true (from_truth (Some b)) && true) (same_int x.slip n) ∙ truth_of (x.slip == n)
-
 -- ---- the queries
 
 pub reads_batch : (old new : State) (n : ℕ) (read : List Row) (rows : Rows)
@@ -202,16 +191,3 @@ reads_slip old new n read rows has was h =
     found_in_order slip_values (λ (x : SlipRow). x.no) (λ _. refl) (Int (pos n) ∷ []) (with_key 0)
     (λ (x : SlipRow). x.no == n) (slip_passes n) 5 (col 1 0 ∷ col 1 2 ∷ col 1 3 ∷ col 1 4 ∷ [])
     (overlay old.now.trees []) rows.slips read was.slips (reads.answer Null)
-
-pub reads_slip_lines_at : (old new : State) (n : ℕ) (read : List Row) (rows : Rows)
-    → old.now.schema ≡ archive_schema rows.has_spans
-    → Holds rows old.now.trees → Shown slip_lines_at (Int (pos n) ∷ []) old new read
-    → read ≡ map shown_slip_line (filter (λ (x : SlipLineRow). x.slip == n) rows.slip_lines)
-reads_slip_lines_at old new n read rows has was h =
-    let reads = reads_as slip_lines_at (Int (pos n) ∷ []) old new (archive_schema rows.has_spans) has _
-    (slip_lines_at_is rows.has_spans)
-    (slip_lines_at_plain rows.has_spans) (slip_lines_at_unlisted rows.has_spans) read h in
-    found_in_order slip_line_values (λ (x : SlipLineRow). x.id) (λ _. refl) (Int (pos n) ∷ []) (with_key 2)
-    (λ (x : SlipLineRow). x.slip == n) (slip_line_passes n) 6
-    (col 1 2 ∷ col 1 3 ∷ col 1 4 ∷ col 1 6 ∷ col 1 7 ∷ col 1 8 ∷ col 1 9 ∷ []) (overlay old.now.trees [])
-    rows.slip_lines read was.slip_lines (reads.answer Null)

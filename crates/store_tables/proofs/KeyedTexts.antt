@@ -82,27 +82,3 @@ pub slip_at_unlisted : (b : Bool) → reads_listing (archive_schema b) slip_at �
 unfolding understood everything
 slip_at_unlisted false = refl
 slip_at_unlisted true = refl
-
-abbrev pub slip_lines_at : List ℕ
-slip_lines_at = codes "SELECT slip, side, no, depth, tag, text, dst FROM slip_line WHERE slip = ?1 ORDER BY id"
-
-pub slip_lines_at_is : (b : Bool) → command_of (understood (archive_schema b) slip_lines_at) ≡ Select
-    (record {
-      lets = [];
-      body = simple 6 (with_key 2)
-          (col 1 2 ∷ col 1 3 ∷ col 1 4 ∷ col 1 6 ∷ col 1 7 ∷ col 1 8 ∷ col 1 9 ∷ []) by_key;
-    })
-    (codes "slip" ∷ codes "side" ∷ codes "no" ∷ codes "depth" ∷ codes "tag" ∷ codes "text" ∷ codes "dst" ∷ [])
-unfolding understood everything
-slip_lines_at_is false = refl
-slip_lines_at_is true = refl
-
-pub slip_lines_at_plain : (b : Bool) → IsPlain (understood (archive_schema b) slip_lines_at)
-unfolding understood everything
-slip_lines_at_plain false = (refl, refl)
-slip_lines_at_plain true = (refl, refl)
-
-pub slip_lines_at_unlisted : (b : Bool) → reads_listing (archive_schema b) slip_lines_at ≡ false
-unfolding understood everything
-slip_lines_at_unlisted false = refl
-slip_lines_at_unlisted true = refl

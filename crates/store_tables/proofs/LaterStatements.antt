@@ -23,9 +23,24 @@ use Rattle.sqlite.specs.State.{State, Executes, ExecutesInside}
 use Rattle.store_tables.specs.Calls.{FollowsDated}
 use Rattle.store_tables.specs.Reading.{AreTyped}
 use Rattle.store_tables.specs.Schema.{archive_schema}
-use Rattle.store_tables.specs.Rows.{Rows, PackRow, SpanRow, LinkRow, SoughtRow, Holds, HoldsOwn, KeepsLater}
+use Rattle.store_tables.specs.Rows.{
+  Rows,
+  PackRow,
+  SlipLineRow,
+  SlipPackRow,
+  SpanRow,
+  LinkRow,
+  SoughtRow,
+  Holds,
+  HoldsOwn,
+  HoldsSides,
+  Keeps,
+  KeepsLater,
+  slip_pack_values,
+  slip_place,
+}
 use Rattle.store_tables.proofs.Coded.{keeps_on}
-use Rattle.store_tables.proofs.Statements.{no_late_index, others_of}
+use Rattle.store_tables.proofs.Statements.{no_late_index, others_of, sides_on}
 
 -- what a statement makes of tables that have spans
 pub record BecomesDated (old new : State) (f : Rows → Rows) : Type 0 where
@@ -86,11 +101,42 @@ beside rows packs spans links soughts old new edit a high dated kept was =
       records = keeps_on _ _ _ (same 2 (omega arith) (omega (arith, high))) was.records;
       receipts = keeps_on _ _ _ (same 4 (omega arith) (omega (arith, high))) was.receipts;
       slips = keeps_on _ _ _ (same 5 (omega arith) (omega (arith, high))) was.slips;
-      slip_lines = keeps_on _ _ _ (same 6 (omega arith) (omega (arith, high))) was.slip_lines;
+      sides = sides_on true rows old new edit a (omega (arith, high)) (omega (arith, high)) dated was.sides;
       own = in_second rows packs spans links soughts new dated (own_of rows old dated was).0 kept;
     }
 
 -- each of these tables but the one that is changed is as it was
 pub late_same : (old new : Trees) (edit : Edit) → Applies (archive_schema true) Enforced old edit new → (t : ℕ)
-    → 10 < t → t < 16 → t ≢ edit.table.tree → new t ≡ old t
+    → 9 < t → t < 16 → t ≢ edit.table.tree → new t ≡ old t
 late_same old new edit a t high low off = a.others t off (no_late_index t high low)
+
+-- the sides of slips in an archive of the second schema, which has no lines of them in rows of their own
+pub sides_of : (rows : Rows) (t : Trees) → rows.has_spans ≡ true → Holds rows t
+    → (rows.slip_lines ≡ []) × Keeps slip_pack_values slip_place rows.slip_packs (t 10)
+sides_of rows t dated was = subst (λ b. HoldsSides b rows.slip_lines rows.slip_packs t) dated was.sides
+
+-- a change of these leaves all other tables
+pub sides_changed : (rows : Rows) (lines : List SlipLineRow) (packs : List SlipPackRow) (old new : Trees) (edit : Edit)
+    → Applies (archive_schema true) Enforced old edit new → edit.table.tree ≡ 10 → rows.has_spans ≡ true → lines ≡ []
+    → Keeps slip_pack_values slip_place packs (new 10) → Holds rows old
+    → Holds (record rows { slip_lines = lines; slip_packs = packs }) new
+sides_changed rows lines packs old new edit a here dated none kept was =
+    let same = others_of true old new edit a in
+    let late = late_same old new edit a in
+    let later = kept_of rows old dated was in
+    record {
+      meta = same 0 (omega arith) (omega (arith, here)) ∙ was.meta;
+      batches = keeps_on _ _ _ (same 1 (omega arith) (omega (arith, here))) was.batches;
+      records = keeps_on _ _ _ (same 2 (omega arith) (omega (arith, here))) was.records;
+      receipts = keeps_on _ _ _ (same 4 (omega arith) (omega (arith, here))) was.receipts;
+      slips = keeps_on _ _ _ (same 5 (omega arith) (omega (arith, here))) was.slips;
+      sides = subst (λ b. HoldsSides b lines packs new) (sym dated) (none, kept);
+      own = in_second rows rows.packs rows.spans rows.links rows.soughts new dated (own_of rows old dated was).0
+          (record {
+            packs_kept = keeps_on _ _ _ (late 11 (omega arith) (omega arith) (omega (arith, here))) later.packs_kept;
+            spans_kept = keeps_on _ _ _ (late 12 (omega arith) (omega arith) (omega (arith, here))) later.spans_kept;
+            links_kept = keeps_on _ _ _ (late 13 (omega arith) (omega arith) (omega (arith, here))) later.links_kept;
+            soughts_kept = keeps_on _ _ _ (late 14 (omega arith) (omega arith) (omega (arith, here)))
+                later.soughts_kept;
+          });
+    }

@@ -12,13 +12,20 @@ use Rattle.store_tables.specs.Schema.{
   links,
   packs,
   pasts,
+  slip_lines,
+  slip_packs,
   sought_by_text,
   soughts,
   spans,
+  without_record_lines,
 }
+use Rattle.store_tables.proofs.Texts.{create_slip_line, slip_line_is}
 
 abbrev pub drop_lines : List ℕ
 drop_lines = codes "DROP TABLE line"
+
+abbrev pub drop_slip_lines : List ℕ
+drop_slip_lines = codes "DROP TABLE slip_line"
 
 abbrev pub create_packs : List ℕ
 create_packs = codes
@@ -77,28 +84,45 @@ drops_lines = record {
   counts = refl;
 }
 
-pub makes_packs : IsCreate (both_and []) create_packs (record packs { tree = 0 })
+pub drops_slip_lines : IsDrop without_record_lines drop_slip_lines 5 slip_lines
+unfolding understood everything same_name
+drops_slip_lines = record {
+  command = refl;
+  whole = refl;
+  plain = (refl, refl);
+  listed = refl;
+  stands_alone = refl;
+  counts = refl;
+}
+
+pub makes_slip_packs : IsCreate (both_and []) create_slip_line (record slip_packs { tree = 0 })
+unfolding understood everything
+makes_slip_packs = record { command = refl; whole = refl; plain = (refl, refl); defined = slip_line_is; counts = refl }
+
+pub makes_packs : IsCreate (both_and (slip_packs ∷ [])) create_packs (record packs { tree = 0 })
 unfolding understood everything
 makes_packs = record { command = refl; whole = refl; plain = (refl, refl); defined = packs_is; counts = refl }
 
-pub makes_spans : IsCreate (both_and (packs ∷ [])) create_spans (record spans { tree = 0 })
+pub makes_spans : IsCreate (both_and (slip_packs ∷ packs ∷ [])) create_spans (record spans { tree = 0 })
 unfolding understood everything
 makes_spans = record { command = refl; whole = refl; plain = (refl, refl); defined = spans_is; counts = refl }
 
-pub makes_links : IsCreate (both_and (packs ∷ spans ∷ [])) create_links (record links { tree = 0 })
+pub makes_links : IsCreate (both_and (slip_packs ∷ packs ∷ spans ∷ [])) create_links (record links { tree = 0 })
 unfolding understood everything
 makes_links = record { command = refl; whole = refl; plain = (refl, refl); defined = links_is; counts = refl }
 
-pub makes_soughts : IsCreate (both_and (packs ∷ spans ∷ links ∷ [])) create_soughts (record soughts { tree = 0 })
+pub makes_soughts : IsCreate (both_and (slip_packs ∷ packs ∷ spans ∷ links ∷ [])) create_soughts
+    (record soughts { tree = 0 })
 unfolding understood everything
 makes_soughts = record { command = refl; whole = refl; plain = (refl, refl); defined = soughts_is; counts = refl }
 
-pub makes_pasts : IsCreate (both_and (packs ∷ spans ∷ links ∷ soughts ∷ [])) create_pasts (record pasts { tree = 0 })
+pub makes_pasts : IsCreate (both_and (slip_packs ∷ packs ∷ spans ∷ links ∷ soughts ∷ [])) create_pasts
+    (record pasts { tree = 0 })
 unfolding understood everything
 makes_pasts = record { command = refl; whole = refl; plain = (refl, refl); defined = pasts_is; counts = refl }
 
 pub makes_sought_by_text : IsCreateIndex
-    (both_and (packs ∷ spans ∷ links ∷ soughts ∷ pasts ∷ [])) create_sought_by_text 9
+    (both_and (slip_packs ∷ packs ∷ spans ∷ links ∷ soughts ∷ pasts ∷ [])) create_sought_by_text 9
     soughts (record sought_by_text { tree = 0 })
 unfolding understood everything
 makes_sought_by_text = record {

@@ -31,6 +31,12 @@ pub mod ReadingRows
 pub mod Reopening
 pub mod Showing
 pub mod ShowingLater
+mod SidePlaces
+mod SideQueries
+mod SideRows
+mod SideStatements
+mod SideTexts
+mod SideTyped
 mod SoughtQueries
 mod SoughtStatements
 mod SoughtTexts

@@ -87,7 +87,7 @@ use Rattle.store_tables.proofs.Writing.{inserts, deletes, cast_int, cast_null}
 use Rattle.store_tables.proofs.Finding.{simple, answered}
 use Rattle.store_tables.proofs.Coded.{same_int, int_order, keeps_less, keeps_on, keeps_put}
 use Rattle.store_tables.proofs.LaterStatements.{beside, kept_of, late_same}
-use Rattle.store_tables.proofs.Statements.{Becomes, becomes, cast_number, others_of, truth_of}
+use Rattle.store_tables.proofs.Statements.{Becomes, becomes, cast_number, others_of, sides_on, truth_of}
 use Rattle.list_laws.proofs.Lists.{map_map}
 
 no_work_3 : (olds : List Row) → works (archive_schema false) Enforced 0 3 olds [] ≡ []
@@ -137,7 +137,7 @@ module _ (sql : List ℕ) (params : Row) (tests : List Term) (q : LineRow → Bo
         records = keeps_on _ _ _ (same 2 (omega arith) (omega arith)) was.records;
         receipts = keeps_on _ _ _ (same 4 (omega arith) (omega arith)) was.receipts;
         slips = keeps_on _ _ _ (same 5 (omega arith) (omega arith)) was.slips;
-        slip_lines = keeps_on _ _ _ (same 6 (omega arith) (omega arith)) was.slip_lines;
+        sides = sides_on false rows db now edit applied (omega arith) (omega arith) fits was.sides;
         own = subst
             (λ b. HoldsOwn b (filter (λ l. not (q l)) rows.lines) (filter (λ p. not (r p)) rows.packs) rows.spans
             rows.links rows.soughts now) (sym fits) (
@@ -184,7 +184,7 @@ module _ (sql : List ℕ) (params : Row) (tests : List Term) (q : LineRow → Bo
         records = keeps_on _ _ _ (same 2 (omega arith) (omega arith)) was.records;
         receipts = keeps_on _ _ _ (same 4 (omega arith) (omega arith)) was.receipts;
         slips = keeps_on _ _ _ (same 5 (omega arith) (omega arith)) was.slips;
-        slip_lines = keeps_on _ _ _ (same 6 (omega arith) (omega arith)) was.slip_lines;
+        sides = sides_on true rows db now edit applied (omega arith) (omega arith) fits was.sides;
         own = subst
             (λ b. HoldsOwn b (filter (λ l. not (q l)) rows.lines) (filter (λ p. not (r p)) rows.packs) rows.spans
             rows.links rows.soughts now) (sym fits) (

@@ -84,26 +84,27 @@ both_true true false = refl
 both_true false b = refl
 
 -- a place between two others, or at one of them
-abbrev is_between : ℕ → ℕ → LinkRow → Bool
-is_between first last l = not (nat_lt (link_place l) first) && not (nat_lt last (link_place l))
+abbrev pub is_between : ℕ → ℕ → ℕ → Bool
+is_between first last place = not (nat_lt place first) && not (nat_lt last place)
 
-passes_between : (first last : ℕ) (x : LinkRow)
-    → list_all (holds ((Int (integer_at first) ∷ Int (integer_at last) ∷ []) ∷ link_values x ∷ [])) between_both
-    ≡ is_between first last x
+-- the test of a row that begins with the integer of a place
+pub passes_between : (first last place : ℕ) (rest : Row)
+    → list_all (holds ((Int (integer_at first) ∷ Int (integer_at last) ∷ []) ∷ (Int (integer_at place) ∷ rest) ∷ []))
+    between_both ≡ is_between first last place
 unfolding binary
-passes_between first last x =
+passes_between first last place rest =
     ap₂ (λ a b. is_true (from_truth (Some a)) && (is_true (from_truth (Some b)) && true))
-    (not_below (link_place x) first) (not_above (link_place x) last)
-    ∙ both_true (not (nat_lt (link_place x) first)) (not (nat_lt last (link_place x)))
+    (not_below place first) (not_above place last)
+    ∙ both_true (not (nat_lt place first)) (not (nat_lt last place))
 
 -- the pairs between the first one and the last one of a number that is named are those of this number
-within : (t u m : ℕ) → m < 2 ^ 32
+pub within : (t u m : ℕ) → m < 2 ^ 32
     → (not (nat_lt (pair_place u m) (pair_place t 0)) && not (nat_lt (pair_place t 4294967295) (pair_place u m)))
     ≡ (u == t)
 within t u m low = grind (arith, nat_tests, low)
 
 all_within : (n : ℕ) (ls : List LinkRow) → AllByRecursion IsTypedLink ls
-    → AllByRecursion (λ l. is_between (pair_place n 0) (pair_place n 4294967295) l ≡ (l.target == n)) ls
+    → AllByRecursion (λ l. is_between (pair_place n 0) (pair_place n 4294967295) (link_place l) ≡ (l.target == n)) ls
 all_within n [] h = tt
 all_within n (l ∷ ls) h = (within n l.target l.no h.0.1, all_within n ls h.1)
 
@@ -120,7 +121,8 @@ reads_links_to old new n all rows was h =
     let reads = reads_as links_between params old new (archive_schema true) has _ links_between_is links_between_plain
     links_between_unlisted all h in
     found_by_order integer_at integer_order link_values link_place (λ _. refl) params between_both
-    (is_between first last) (passes_between first last) 13 (col 1 0 ∷ []) (overlay old.now.trees []) rows.links all
+    (λ l. is_between first last (link_place l)) (λ l. passes_between first last (link_place l) (Null ∷ [])) 13
+    (col 1 0 ∷ []) (overlay old.now.trees []) rows.links all
     (kept_of rows old.now.trees second was.good.holds).links_kept (reads.answer Null)
     ∙ ap (map shown_link) (filter_same _ _ rows.links (all_within n rows.links was.good.typed.links)))
 

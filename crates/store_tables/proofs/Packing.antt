@@ -4,6 +4,7 @@ use Rattle.std.proofs.Common.{
   ℕ,
   ◌∙◌,
   ◌==◌,
+  ◌+◌,
   ◌++◌,
   append-nil,
   pos,
@@ -38,12 +39,11 @@ use Rattle.record_text.specs.declared.refusal.RefusalKind.{RefusalKind}
 use Rattle.packed_lines.specs.Packed.{ArePackedAs, packed}
 use Rattle.packed_lines.proofs.OneText.{same_lines}
 use Rattle.store_tables.specs.Calls.{Settled, LeavesOnly}
-use Rattle.store_tables.specs.Conversion.{EachWith, HasPack, IsPackReadAs, ShowsTyped}
+use Rattle.store_tables.specs.Conversion.{EachWith, HasPack, IsTypedReadAs, ShowsTyped}
 use Rattle.store_tables.specs.Keyed.{IsOnly, lines_within, packs_at}
 use Rattle.store_tables.specs.Looking.{IsFailure, Looks}
 use Rattle.store_tables.specs.Reading.{AreTyped, HaveTop, IsTypedLine, IsTypedPack, read_pack}
 use Rattle.store_tables.specs.Rows.{LineRow, PackRow, Rows, first_tag, first_target, lines_of, number_or_null}
-use Rattle.store_tables.specs.Showing.{ShowsPack}
 use Rattle.store_tables.specs.Shown.{shown_pack}
 use Rattle.store_tables.proofs.Calls.{if_ok}
 use Rattle.store_tables.proofs.ReadingRows.{all_typed}
@@ -70,76 +70,85 @@ same_target None (Some n) e = absurd cc
 same_target (Some m) None e = absurd cc
 same_target (Some m) (Some n) e = ap Some (same_number m n e)
 
-pub one_pack : (row : Row) (n : ℕ) (ls : List (ℕ × Label)) (p : PackRow) → column row 0 ≡ Int (pos n) → HasPack row ls
-    → IsTypedPack p → row ≡ shown_pack p → (n ≡ p.no) × (ls ≡ p.lines)
-one_pack row n ls p number has typed is =
-    let tag : first_tag ls ≡ first_tag p.lines = same_text _ _ (sym has.tag ∙ ap (λ r. column r 1) is) in
-    let text : packed ls ≡ packed p.lines = same_text _ _ (sym has.text ∙ ap (λ r. column r 2) is) in
-    let target : first_target ls ≡ first_target p.lines = same_target _ _ (sym has.target ∙ ap (λ r. column r 3) is) in
-    let ours : ArePackedAs (first_tag p.lines) (first_target p.lines) (packed p.lines) ls =
-    subst (λ t. ArePackedAs (first_tag p.lines) (first_target p.lines) t ls) text
-    (subst (λ o. ArePackedAs (first_tag p.lines) o (packed ls) ls) target
-    (subst (λ t. ArePackedAs t (first_target ls) (packed ls) ls) tag (packed_of ls has.top has.typed))) in (
-      same_number n p.no (sym number ∙ ap (λ r. column r 0) is),
-      same_lines (first_tag p.lines) (first_target p.lines) (packed p.lines) ls p.lines ours
-          (packed_of p.lines typed.top typed.lines),
-    )
+-- typed lines that three columns of one row show are one list
+pub one_list : (row : Row) (at : ℕ) (ls ms : List (ℕ × Label)) → HasPack row at ls
+    → column row at ≡ Text (first_tag ms) → column row (at + 1) ≡ Text (packed ms)
+    → column row (at + 2) ≡ number_or_null (first_target ms) → HaveTop ms → AllByRecursion IsTypedLine ms → ls ≡ ms
+one_list row at ls ms has first words named top typed =
+    let tag : first_tag ls ≡ first_tag ms = same_text _ _ (sym has.tag ∙ first) in
+    let text : packed ls ≡ packed ms = same_text _ _ (sym has.text ∙ words) in
+    let target : first_target ls ≡ first_target ms = same_target _ _ (sym has.target ∙ named) in
+    let ours : ArePackedAs (first_tag ms) (first_target ms) (packed ms) ls =
+    subst (λ t. ArePackedAs (first_tag ms) (first_target ms) t ls) text
+    (subst (λ o. ArePackedAs (first_tag ms) o (packed ls) ls) target
+    (subst (λ t. ArePackedAs t (first_target ls) (packed ls) ls) tag (packed_of ls has.top has.typed))) in
+    same_lines (first_tag ms) (first_target ms) (packed ms) ls ms ours (packed_of ms top typed)
 
--- the rows of a query of such rows
-packs_are : (ps : List PackRow) (ys : List (ℕ × List (ℕ × Label))) → AllByRecursion IsTypedPack ps
-    → EachWith (IsPackReadAs ShowsPack) (map shown_pack ps) ys → ys ≡ map read_pack ps
-packs_are [] [] typed h = refl
-packs_are [] (y ∷ ys) typed h = absurd h
-packs_are (p ∷ ps) [] typed h = absurd h
-packs_are (p ∷ ps) (y ∷ ys) typed h =
-    ap₂ (λ z zs. z ∷ zs) (h.0.0 p typed.0 refl) (packs_are ps ys typed.1 h.1)
+pub one_pack : (row : Row) (n : ℕ) (ls : List (ℕ × Label)) (p : PackRow) → column row 0 ≡ Int (pos n)
+    → HasPack row 1 ls → IsTypedPack p → row ≡ shown_pack p → (n ≡ p.no) × (ls ≡ p.lines)
+one_pack row n ls p number has typed is = (
+  same_number n p.no (sym number ∙ ap (λ r. column r 0) is),
+  one_list row 1 ls p.lines has (ap (λ r. column r 1) is) (ap (λ r. column r 2) is) (ap (λ r. column r 3) is) typed.top
+      typed.lines,
+)
 
-module _ {A : Type 0} (items : A → List (ℕ × List (ℕ × Label))) (sql : List ℕ) (params : Row) (old new : State)
-    (result : Result A RefusalKind) (packs_of : Rows → List PackRow)
-    (shows : (rows : Rows) → Settled old rows → (all : List Row) → Shown sql params old new all
-    → all ≡ map shown_pack (packs_of rows))
-    (typed : (rows : Rows) → AreTyped rows → AllByRecursion IsTypedPack (packs_of rows)) where
-  abbrev Reads : Type 0
-  Reads = HasCleanDisk new → IfOk result (λ a. (all : List Row) × Shown sql params old new all
-      × EachWith (IsPackReadAs ShowsPack) all (items a))
+-- the rows of a query of items whose values are those of the program's types
+module _ {X Y : Type 0} (IsTyped : X → Type 0) (shown : X → Row) (read : X → Y) (Shows : Row → Y → Type 0) where
+  abbrev Read : Row → Y → Type 0
+  Read = IsTypedReadAs IsTyped shown read Shows
 
-  abbrev Refuses : Type 0
-  Refuses = HasCleanDisk new
-      → IfErr result (λ kind. IsFailure kind
-      ⊎ ((all : List Row) × Shown sql params old new all × ¬ (AllByRecursion (ShowsTyped shown_pack IsTypedPack) all)))
+  items_are : (xs : List X) (ys : List Y) → AllByRecursion IsTyped xs → EachWith Read (map shown xs) ys
+      → ys ≡ map read xs
+  items_are [] [] typed h = refl
+  items_are [] (y ∷ ys) typed h = absurd h
+  items_are (x ∷ xs) [] typed h = absurd h
+  items_are (x ∷ xs) (y ∷ ys) typed h = ap₂ (λ z zs. z ∷ zs) (h.0.0 x typed.0 refl) (items_are xs ys typed.1 h.1)
 
-  only_fails : (kind : RefusalKind) (rows : Rows) → Settled old rows → IsFailure kind
-      ⊎ ((all : List Row) × Shown sql params old new all × ¬ (AllByRecursion (ShowsTyped shown_pack IsTypedPack) all))
-      → IsFailure kind
-  only_fails kind rows settled (inl failed) = failed
-  only_fails kind rows settled (inr was) =
-      absurd (was.2 (subst (AllByRecursion (ShowsTyped shown_pack IsTypedPack)) (sym (shows rows settled was.0 was.1))
-      (all_typed shown_pack IsTypedPack (packs_of rows) (typed rows settled.good.typed))))
+  -- what a query shows of such rows
+  pub items_shown : (all : List Row) (ys : List Y) → EachWith Read all ys → EachWith Shows all ys
+  items_shown [] [] h = tt
+  items_shown [] (y ∷ ys) h = absurd h
+  items_shown (r ∷ rs) [] h = absurd h
+  items_shown (r ∷ rs) (y ∷ ys) h = (h.0.1, items_shown rs ys h.1)
 
-  pub looks_packs : Reads → Refuses
-      → (HasCleanDisk new → IfOk result (λ _. (rows : Rows) → Settled old rows → Settled new rows))
-      → (HasCleanDisk new → (rows : Rows) → Settled old rows → LeavesOnly new rows)
-      → (HasCleanDisk new → HasCleanDisk old)
-      → Looks (λ rows a. items a ≡ map read_pack (packs_of rows)) old new result
-  looks_packs reads refuses same crash clean = record {
-    read = λ is_clean. if_ok result
-        (λ a was rows settled. packs_are (packs_of rows) (items a) (typed rows settled.good.typed)
-        (subst (λ all. EachWith (IsPackReadAs ShowsPack) all (items a)) (shows rows settled was.0 was.1) was.2))
-        (reads is_clean);
-    same = same;
-    refused = λ is_clean. IfErr-weaker result _ _ (λ kind why rows settled. only_fails kind rows settled why)
-        (refuses is_clean);
-    crash = crash;
-    clean = clean;
-  }
+  module _ {A : Type 0} (items : A → List Y) (sql : List ℕ) (params : Row) (old new : State)
+      (result : Result A RefusalKind) (items_of : Rows → List X)
+      (shows : (rows : Rows) → Settled old rows → (all : List Row) → Shown sql params old new all
+      → all ≡ map shown (items_of rows))
+      (typed : (rows : Rows) → AreTyped rows → AllByRecursion IsTyped (items_of rows)) where
+    abbrev Reads : Type 0
+    Reads = HasCleanDisk new → IfOk result (λ a. (all : List Row) × Shown sql params old new all
+        × EachWith Read all (items a))
 
--- what a query shows of such rows
-pub packs_shown : (all : List Row) (items : List (ℕ × List (ℕ × Label))) → EachWith (IsPackReadAs ShowsPack) all items
-    → EachWith ShowsPack all items
-packs_shown [] [] h = tt
-packs_shown [] (y ∷ ys) h = absurd h
-packs_shown (x ∷ xs) [] h = absurd h
-packs_shown (x ∷ xs) (y ∷ ys) h = (h.0.1, packs_shown xs ys h.1)
+    abbrev Refuses : Type 0
+    Refuses = HasCleanDisk new
+        → IfErr result (λ kind. IsFailure kind
+        ⊎ ((all : List Row) × Shown sql params old new all × ¬ (AllByRecursion (ShowsTyped shown IsTyped) all)))
+
+    only_fails : (kind : RefusalKind) (rows : Rows) → Settled old rows → IsFailure kind
+        ⊎ ((all : List Row) × Shown sql params old new all × ¬ (AllByRecursion (ShowsTyped shown IsTyped) all))
+        → IsFailure kind
+    only_fails kind rows settled (inl failed) = failed
+    only_fails kind rows settled (inr was) =
+        absurd (was.2 (subst (AllByRecursion (ShowsTyped shown IsTyped)) (sym (shows rows settled was.0 was.1))
+        (all_typed shown IsTyped (items_of rows) (typed rows settled.good.typed))))
+
+    pub looks_typed : Reads → Refuses
+        → (HasCleanDisk new → IfOk result (λ _. (rows : Rows) → Settled old rows → Settled new rows))
+        → (HasCleanDisk new → (rows : Rows) → Settled old rows → LeavesOnly new rows)
+        → (HasCleanDisk new → HasCleanDisk old)
+        → Looks (λ rows a. items a ≡ map read (items_of rows)) old new result
+    looks_typed reads refuses same crash clean = record {
+      read = λ is_clean. if_ok result
+          (λ a was rows settled. items_are (items_of rows) (items a) (typed rows settled.good.typed)
+          (subst (λ all. EachWith Read all (items a)) (shows rows settled was.0 was.1) was.2))
+          (reads is_clean);
+      same = same;
+      refused = λ is_clean. IfErr-weaker result _ _ (λ kind why rows settled. only_fails kind rows settled why)
+          (refuses is_clean);
+      crash = crash;
+      clean = clean;
+    }
 
 -- ---- the lines of a number
 each_within : (ps : List PackRow) → flat_map (λ (p : PackRow). p.lines) ps

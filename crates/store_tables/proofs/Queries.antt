@@ -20,7 +20,6 @@ use Rattle.store_tables.specs.Rows.{
   RecordRow,
   ReceiptRow,
   SlipRow,
-  SlipLineRow,
   Holds,
   Keeps,
   meta_values,
@@ -28,7 +27,6 @@ use Rattle.store_tables.specs.Rows.{
   record_values,
   receipt_values,
   slip_values,
-  slip_line_values,
 }
 use Rattle.store_tables.specs.Schema.{archive_schema}
 use Rattle.store_tables.specs.Shown.{
@@ -37,7 +35,6 @@ use Rattle.store_tables.specs.Shown.{
   shown_record,
   shown_receipt,
   shown_slip,
-  shown_slip_line,
 }
 use Rattle.store_tables.proofs.Coded.{int_order, less}
 use Rattle.store_tables.proofs.Finding.{simple, in_order, answered}
@@ -63,10 +60,6 @@ use Rattle.store_tables.proofs.Texts.{
   select_slips_is,
   select_slips_plain,
   select_slips_unlisted,
-  select_slip_lines,
-  select_slip_lines_is,
-  select_slip_lines_plain,
-  select_slip_lines_unlisted,
 }
 use Rattle.list_laws.proofs.Lists.{filter_all}
 
@@ -148,17 +141,6 @@ reads_slips old new read rows has was h =
     (select_slips_unlisted rows.has_spans) read h in
     all_in_order slip_values (λ (x : SlipRow). x.no) (λ _. refl) 5 (col 1 0 ∷ col 1 2 ∷ col 1 3 ∷ col 1 4 ∷ [])
     (overlay old.now.trees []) rows.slips read was.slips (reads.answer Null)
-
-pub reads_slip_lines : (old new : State) (read : List Row) (rows : Rows)
-    → old.now.schema ≡ archive_schema rows.has_spans
-    → Holds rows old.now.trees → Shown select_slip_lines [] old new read → read ≡ map shown_slip_line rows.slip_lines
-reads_slip_lines old new read rows has was h =
-    let reads = reads_as select_slip_lines [] old new (archive_schema rows.has_spans) has _
-    (select_slip_lines_is rows.has_spans) (select_slip_lines_plain rows.has_spans)
-    (select_slip_lines_unlisted rows.has_spans) read h in
-    all_in_order slip_line_values (λ (x : SlipLineRow). x.id) (λ _. refl) 6
-    (col 1 2 ∷ col 1 3 ∷ col 1 4 ∷ col 1 6 ∷ col 1 7 ∷ col 1 8 ∷ col 1 9 ∷ []) (overlay old.now.trees [])
-    rows.slip_lines read was.slip_lines (reads.answer Null)
 
 -- a settled connection that is seen unchanged is settled
 pub still_settled : (old new : State) (rows : Rows) → IsUnchanged old new → Settled old rows → Settled new rows

@@ -47,7 +47,7 @@ use Rattle.store_tables.specs.Reading.{
   read_line,
   read_pack,
   read_receipt,
-  read_slip_line,
+  read_sides,
 }
 use Rattle.store_tables.specs.Rows.{Rows}
 use Rattle.store_tables.proofs.Calls.{if_ok}
@@ -195,7 +195,7 @@ pub read_whole : (rows : Rows) (read : ReadRows) → read.next ≡ rows.next →
     × (read.records ≡ map read_record rows.records)
     → (read.lines ≡ map read_line rows.lines) × (read.packs ≡ map read_pack rows.packs)
     → (read.receipts ≡ map read_receipt rows.receipts) × (read.slips ≡ rows.slips)
-    × (read.slip_lines ≡ map read_slip_line rows.slip_lines) → read ≡ read_of rows
+    × (read.slip_lines ≡ read_sides rows) → read ≡ read_of rows
 read_whole rows read next first lines second =
     let parts : ReadRows = record {
       next = read.next;

@@ -34,8 +34,10 @@ use Rattle.store_tables.specs.Showing.{
   ShowsReceipt,
   ShowsRecord,
   ShowsRecords,
+  ShowsSides,
   ShowsSlip,
   ShowsSlipLine,
+  ShowsSlipPack,
 }
 use Rattle.store_tables.proofs.Queries.{plain_under, unchanged_by}
 use Rattle.store_tables.proofs.PackTexts.{select_lines_plain, select_packs_plain}
@@ -118,33 +120,6 @@ pub has_after : (old new : State) (has_spans : Bool) → IsUnchanged old new →
     → new.now.schema ≡ archive_schema has_spans
 has_after old new has_spans h has = ap (λ (d : Database). d.schema) h.0.now_is ∙ has
 
--- three queries, one after the other: each shows what it does between the first state and the last
-module _ {A B C : Type 0} (first second third : List ℕ)
-    (plain : ((has_spans : Bool) → IsPlain (understood (archive_schema has_spans) first))
-    × ((has_spans : Bool) → IsPlain (understood (archive_schema has_spans) second))
-    × ((has_spans : Bool) → IsPlain (understood (archive_schema has_spans) third)))
-    (First : Row → A → Type 0) (Second : Row → B → Type 0) (Third : Row → C → Type 0) where
-  pub shows_three : (old one two new : State) (xs : List A) (ys : List B) (zs : List C)
-      (has_spans : Bool) → old.now.schema ≡ archive_schema has_spans → ShowsEach first First old one xs
-      → (one.now.schema ≡ archive_schema has_spans → ShowsEach second Second one two ys)
-      → (two.now.schema ≡ archive_schema has_spans → ShowsEach third Third two new zs)
-      → ShowsEach first First old new xs × ShowsEach second Second old new ys × ShowsEach third Third old new zs
-  shows_three old one two new xs ys zs has_spans has a b c =
-      let kept_one = unchanged_each first plain.0 First old one xs has_spans has a in
-      let has_one = has_after old one has_spans kept_one has in
-      let shows_two = b has_one in
-      let kept_two = unchanged_each second plain.1 Second one two ys has_spans has_one shows_two in
-      let has_two = has_after one two has_spans kept_two has_one in
-      let shows_last = c has_two in
-      let kept_last = unchanged_each third plain.2 Third two new zs has_spans has_two shows_last in
-      let rest = unchanged_then one two new kept_two kept_last in
-      let two_steps = unchanged_then old one two kept_one kept_two in (
-        each_between first plain.0 First old old one new xs has_spans has (seen_before old one kept_one) rest a,
-        each_between second plain.1 Second old one two new ys has_spans has_one kept_one kept_last shows_two,
-        each_between third plain.2 Third old two new new zs has_spans has_two two_steps (seen_after two new kept_last)
-            shows_last,
-      )
-
 pub shows_records : (old one new : State) (batches : List BatchRow) (records : List (ℕ × ℕ)) (has_spans : Bool)
     → old.now.schema ≡ archive_schema has_spans → ShowsEach batch_query ShowsBatch old one batches
     → (one.now.schema ≡ archive_schema has_spans → ShowsEach record_query ShowsRecord one new records)
@@ -162,17 +137,49 @@ shows_records old one new batches records has_spans has a b =
           has_one kept_one (seen_after one new kept_last) shows_last;
     }
 
+-- what is shown of the sides of slips, of whichever schema
+pub sides_between : (b has_spans : Bool) (x a c y : State) (lines : List (ℕ × (Bool × (ℕ × (ℕ × Label)))))
+    → a.now.schema ≡ archive_schema b → IsUnchanged x a → IsUnchanged c y → ShowsSides has_spans lines a c
+    → ShowsSides has_spans lines x y
+sides_between b false x a c y lines has before after h =
+    each_between slip_line_query select_slip_lines_plain ShowsSlipLine x a c y lines b has before after h
+sides_between b true x a c y lines has before after h = (
+  h.0,
+  each_between slip_line_query select_slip_lines_plain ShowsSlipPack x a c y h.0 b has before after h.1,
+  h.2,
+)
+
+unchanged_sides : (has_spans : Bool) (old new : State) (lines : List (ℕ × (Bool × (ℕ × (ℕ × Label)))))
+    → old.now.schema ≡ archive_schema has_spans → ShowsSides has_spans lines old new → IsUnchanged old new
+unchanged_sides false old new lines has h =
+    unchanged_each slip_line_query select_slip_lines_plain ShowsSlipLine old new lines false has h
+unchanged_sides true old new lines has h =
+    unchanged_each slip_line_query select_slip_lines_plain ShowsSlipPack old new h.0 true has h.1
+
 pub shows_history : (old one two new : State) (receipts : List (List ℕ × Receipt)) (slips : List SlipRow)
     (slip_lines : List (ℕ × (Bool × (ℕ × (ℕ × Label))))) (has_spans : Bool) → old.now.schema ≡ archive_schema has_spans
     → ShowsEach receipt_query ShowsReceipt old one receipts
     → (one.now.schema ≡ archive_schema has_spans → ShowsEach slip_query ShowsSlip one two slips)
-    → (two.now.schema ≡ archive_schema has_spans → ShowsEach slip_line_query ShowsSlipLine two new slip_lines)
-    → ShowsHistory receipts slips slip_lines old new
+    → (two.now.schema ≡ archive_schema has_spans → ShowsSides has_spans slip_lines two new)
+    → ShowsHistory has_spans receipts slips slip_lines old new
 shows_history old one two new receipts slips slip_lines has_spans has a b c =
-    let all = shows_three receipt_query slip_query slip_line_query
-    (select_receipts_plain, select_slips_plain, select_slip_lines_plain) ShowsReceipt ShowsSlip ShowsSlipLine old one
-    two new receipts slips slip_lines has_spans has a b c in
-    record { receipts_shown = all.0; slips_shown = all.1; slip_lines_shown = all.2 }
+    let kept_one = unchanged_each receipt_query select_receipts_plain ShowsReceipt old one receipts has_spans has a in
+    let has_one = has_after old one has_spans kept_one has in
+    let shows_two = b has_one in
+    let kept_two = unchanged_each slip_query select_slips_plain ShowsSlip one two slips has_spans has_one shows_two in
+    let has_two = has_after one two has_spans kept_two has_one in
+    let shows_last = c has_two in
+    let kept_last = unchanged_sides has_spans two new slip_lines has_two shows_last in
+    let rest = unchanged_then one two new kept_two kept_last in
+    let two_steps = unchanged_then old one two kept_one kept_two in
+    record {
+      receipts_shown = each_between receipt_query select_receipts_plain ShowsReceipt old old one new receipts has_spans
+          has (seen_before old one kept_one) rest a;
+      slips_shown = each_between slip_query select_slips_plain ShowsSlip old one two new slips has_spans has_one
+          kept_one kept_last shows_two;
+      slip_lines_shown = sides_between has_spans has_spans old two new new slip_lines has_two two_steps
+          (seen_after two new kept_last) shows_last;
+    }
 
 -- records between two states are so between two others that see the same
 records_between : (x a b y : State) (batches : List BatchRow) (records : List (ℕ × ℕ)) (has_spans : Bool)
@@ -205,16 +212,15 @@ unchanged_lines true old new lines packs has h =
 history_between : (x a b y : State) (receipts : List (List ℕ × Receipt)) (slips : List SlipRow)
     (slip_lines : List (ℕ × (Bool × (ℕ × (ℕ × Label))))) (has_spans : Bool) → a.now.schema ≡ archive_schema has_spans
     → IsUnchanged x a
-    → IsUnchanged b y → ShowsHistory receipts slips slip_lines a b → ShowsHistory receipts slips slip_lines x y
+    → IsUnchanged b y → ShowsHistory has_spans receipts slips slip_lines a b
+    → ShowsHistory has_spans receipts slips slip_lines x y
 history_between x a b y receipts slips slip_lines has_spans has before after h = record {
   receipts_shown = each_between receipt_query select_receipts_plain ShowsReceipt x a b y receipts has_spans has before
       after
       h.receipts_shown;
   slips_shown = each_between slip_query select_slips_plain ShowsSlip x a b y slips has_spans has before after
       h.slips_shown;
-  slip_lines_shown = each_between slip_line_query select_slip_lines_plain ShowsSlipLine x a b y slip_lines has_spans has
-      before
-      after h.slip_lines_shown;
+  slip_lines_shown = sides_between has_spans has_spans x a b y slip_lines has before after h.slip_lines_shown;
 }
 
 -- all that is read, part by part
@@ -223,7 +229,8 @@ pub shows_read : (old one two three new : State) (read : ReadRows) (society : Li
     → ShowsEach meta_query ShowsMeta old one ((read.next, society) ∷ [])
     → (one.now.schema ≡ archive_schema has_spans → ShowsRecords read.batches read.records one two)
     → (two.now.schema ≡ archive_schema has_spans → ShowsLines has_spans read.lines read.packs two three)
-    → (three.now.schema ≡ archive_schema has_spans → ShowsHistory read.receipts read.slips read.slip_lines three new)
+    → (three.now.schema ≡ archive_schema has_spans
+    → ShowsHistory has_spans read.receipts read.slips read.slip_lines three new)
     → ShowsRead has_spans read old new
 shows_read old one two three new read society has_spans has a b c d =
     let kept_one = unchanged_each meta_query select_meta_plain ShowsMeta old one _ has_spans has a in

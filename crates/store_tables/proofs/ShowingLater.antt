@@ -13,7 +13,6 @@ use Rattle.store_tables.specs.Prepared.{
   link_query,
   receipt_query,
   slip_query,
-  slip_line_query,
   sought_query,
   span_query,
 }
@@ -30,14 +29,20 @@ use Rattle.store_tables.specs.Showing.{
   ShowsReceipt,
   ShowsRecord,
   ShowsSlip,
-  ShowsSlipLine,
   ShowsSought,
   ShowsSoughts,
   ShowsSpan,
   ShowsSpans,
 }
 use Rattle.store_tables.proofs.Queries.{unchanged_by}
-use Rattle.store_tables.proofs.Showing.{each_between, has_after, lines_between, seen_before, shown_between}
+use Rattle.store_tables.proofs.Showing.{
+  each_between,
+  has_after,
+  lines_between,
+  seen_before,
+  shown_between,
+  sides_between,
+}
 use Rattle.store_tables.proofs.LinkTexts.{select_links_plain}
 use Rattle.store_tables.proofs.SoughtTexts.{select_soughts_plain}
 use Rattle.store_tables.proofs.SpanTexts.{select_spans_plain}
@@ -46,7 +51,6 @@ use Rattle.store_tables.proofs.Texts.{
   select_meta_plain,
   select_receipts_plain,
   select_records_plain,
-  select_slip_lines_plain,
   select_slips_plain,
 }
 
@@ -121,7 +125,7 @@ module _ {X : Type 0} (sql : List ℕ) (plain : IsPlain (understood (archive_sch
     history = record {
       receipts_shown = same receipt_query select_receipts_plain ShowsReceipt read.receipts shows.history.receipts_shown;
       slips_shown = same slip_query select_slips_plain ShowsSlip read.slips shows.history.slips_shown;
-      slip_lines_shown = same slip_line_query select_slip_lines_plain ShowsSlipLine read.slip_lines
+      slip_lines_shown = sides_between true b old mid mid old read.slip_lines has_behind kept (back old mid kept)
           shows.history.slip_lines_shown;
     };
   }

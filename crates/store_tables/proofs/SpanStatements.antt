@@ -80,7 +80,7 @@ use Rattle.store_tables.proofs.SpanTexts.{
 }
 use Rattle.store_tables.proofs.Writing.{inserts, deletes, updates, cast_int, cast_null}
 use Rattle.store_tables.proofs.Finding.{simple, answered}
-use Rattle.store_tables.proofs.Statements.{Becomes, becomes, no_work, others_of, own_on, truth_of}
+use Rattle.store_tables.proofs.Statements.{Becomes, becomes, no_work, others_of, own_on, sides_on, truth_of}
 use Rattle.store_tables.proofs.Coded.{same_int, keeps_put, keeps_less, keeps_on}
 use Rattle.list_laws.proofs.Lists.{map_map}
 
@@ -211,7 +211,7 @@ sets_either old new count b has h =
       records = keeps_on _ _ _ (same 2 (omega arith) (omega arith)) was.records;
       receipts = keeps_on _ _ _ (same 4 (omega arith) (omega arith)) was.receipts;
       slips = keeps_on _ _ _ (same 5 (omega arith) (omega arith)) was.slips;
-      slip_lines = keeps_on _ _ _ (same 6 (omega arith) (omega arith)) was.slip_lines;
+      sides = sides_on b c db now edit applied (omega arith) (omega arith) fits was.sides;
       own = own_on b c db now edit applied (omega arith) (omega arith) fits was.own;
     })
 

@@ -36,7 +36,7 @@ use Rattle.std.proofs.lemmas.List.Sorted.{IsPermutation-map}
 use Rattle.sqlite_rules.specs.Edit.{without_all, Applies, IsNoIndex}
 use Rattle.sqlite.specs.declared.types.Value.TheVariants.{Null, Int, Text}
 use Rattle.sqlite.specs.Order.{Row}
-use Rattle.sqlite.specs.Ops.{is_true, from_truth, binary, unary}
+use Rattle.sqlite.specs.Ops.{is_true, from_truth, binary}
 use Rattle.sqlite.specs.Term.{holds, col, lit}
 use Rattle.sqlite.specs.Tree.{Trees, rowid, put_row}
 use Rattle.sqlite_schema.specs.Names.{same_name}
@@ -53,13 +53,12 @@ use Rattle.sqlite.specs.Edit.{Edit, edit_of, edited, id_in, taken_by, next_rowid
 use Rattle.sqlite_rules.specs.Calls.{ids_of}
 use Rattle.sqlite_rules.specs.Action.{works, Work, Writes}
 use Rattle.sqlite.specs.Cast.{cast}
-use Rattle.sqlite.specs.Kind.TheVariants.{Integer, Text as TextKind}
+use Rattle.sqlite.specs.Kind.TheVariants.{Integer}
 use Rattle.sqlite.specs.State.{State, Executes}
 use Rattle.sqlite.proofs.Callers.{runs_as, one_step, one_permutation, statement_of}
 use Rattle.sqlite.specs.Listing.{understood}
-use Rattle.stored_lines.specs.Line.{Label}
 use Rattle.receipts.specs.declared.answer.Receipt.{Receipt}
-use Rattle.store_tables.specs.Schema.{archive_schema, meta, batches, records, receipts, slips, slip_lines}
+use Rattle.store_tables.specs.Schema.{archive_schema, meta, batches, records, receipts, slips}
 use Rattle.store_tables.specs.Rows.{
   Rows,
   BatchRow,
@@ -69,21 +68,20 @@ use Rattle.store_tables.specs.Rows.{
   ReceiptRow,
   SlipRow,
   SlipLineRow,
+  SlipPackRow,
   SpanRow,
   LinkRow,
   SoughtRow,
   Holds,
   HoldsOwn,
+  HoldsSides,
   meta_values,
   batch_values,
-  line_fields,
   record_values,
   receipt_values,
   receipt_fields,
   slip_values,
-  slip_line_values,
   number_or_null,
-  words_or_null,
   flag,
   next_key,
   bare_first,
@@ -93,8 +91,6 @@ use Rattle.store_tables.specs.Rows.{
   without_record_row,
   with_receipt,
   with_slip_row,
-  with_slip_line,
-  without_slip_lines,
 }
 use Rattle.store_tables.proofs.Texts.{
   with_key,
@@ -102,17 +98,12 @@ use Rattle.store_tables.proofs.Texts.{
   receipts_listed,
   slips_place,
   slips_listed,
-  slip_lines_place,
-  slip_lines_listed,
   insert_meta,
   insert_meta_is,
   insert_meta_plain,
   insert_batch,
   insert_batch_is,
   insert_batch_plain,
-  delete_slip_lines,
-  delete_slip_lines_is,
-  delete_slip_lines_plain,
   insert_record,
   insert_record_is,
   insert_record_plain,
@@ -128,9 +119,6 @@ use Rattle.store_tables.proofs.Texts.{
   insert_slip,
   insert_slip_is,
   insert_slip_plain,
-  insert_slip_line,
-  insert_slip_line_is,
-  insert_slip_line_plain,
 }
 use Rattle.store_tables.proofs.Writing.{inserts, deletes, updates, cast_int, cast_null, Restrict, restricted_step}
 use Rattle.store_tables.proofs.Finding.{simple, answered}
@@ -163,11 +151,6 @@ pub cast_number : (o : Option ℕ) → cast Integer (number_or_null o) ≡ numbe
 cast_number None = cast_null
 cast_number (Some n) = cast_int (pos n)
 
-pub cast_words : (o : Option (List ℕ)) → cast TextKind (words_or_null o) ≡ words_or_null o
-unfolding unary
-cast_words None = refl
-cast_words (Some t) = refl
-
 -- the rows of each tree but one are as they were
 abbrev pub Others : Trees → Trees → ℕ → Type 0
 Others old new at = (t : ℕ) → t < 7 → t ≢ at → new t ≡ old t
@@ -178,20 +161,20 @@ no_early_index false t low = (
   omega (arith, low),
   (omega (arith, low), (omega (arith, low), (omega (arith, low), (omega (arith, low), tt)))),
 )
-no_early_index true t low = (omega (arith, low), (omega (arith, low), (omega (arith, low), tt)))
+no_early_index true t low = (omega (arith, low), (omega (arith, low), tt))
 
 pub others_of : (b : Bool) (old new : Trees) (edit : Edit) → Applies (archive_schema b) Enforced old edit new
     → Others old new edit.table.tree
 others_of b old new edit a t low off = a.others t off (no_early_index b t low)
 
 -- nor is one of those that the second schema alone has
-pub no_late_index : (t : ℕ) → 10 < t → t < 16 → IsNoIndex (archive_schema true) t
-no_late_index t high low = (omega (arith, high), (omega (arith, high), (omega (arith, low), tt)))
+pub no_late_index : (t : ℕ) → 9 < t → t < 16 → IsNoIndex (archive_schema true) t
+no_late_index t high low = (omega (arith, high), (omega (arith, low), tt))
 
 -- a change of a table that both schemas have leaves those that one of them has
 own_same : (b : Bool) (lines : List LineRow) (packs : List PackRow) (spans : List SpanRow) (links : List LinkRow)
     (soughts : List SoughtRow) (old new : Trees) → new 3 ≡ old 3
-    → (b ≡ true → (t : ℕ) → 10 < t → t < 16 → new t ≡ old t) → HoldsOwn b lines packs spans links soughts old
+    → (b ≡ true → (t : ℕ) → 9 < t → t < 16 → new t ≡ old t) → HoldsOwn b lines packs spans links soughts old
     → HoldsOwn b lines packs spans links soughts new
 own_same false lines packs spans links soughts old new early late was =
     (keeps_on _ _ _ early was.0, was.1, was.2, was.3, was.4)
@@ -214,6 +197,22 @@ own_on b rows old new edit a low off fits was =
     (others_of b old new edit a 3 (omega arith) off)
     (λ second t high under. a.others t (omega (arith, low, high))
     (subst (λ c. IsNoIndex (archive_schema c) t) (sym second ∙ fits) (no_late_index t high under))) was
+
+-- and so do those of the sides of slips, where another table is changed
+sides_same : (b : Bool) (lines : List SlipLineRow) (packs : List SlipPackRow) (old new : Trees) → new 6 ≡ old 6
+    → (b ≡ true → new 10 ≡ old 10) → HoldsSides b lines packs old → HoldsSides b lines packs new
+sides_same false lines packs old new early late was = (keeps_on _ _ _ early was.0, was.1)
+sides_same true lines packs old new early late was = (was.0, keeps_on _ _ _ (late refl) was.1)
+
+pub sides_on : (b : Bool) (rows : Rows) (old new : Trees) (edit : Edit)
+    → Applies (archive_schema b) Enforced old edit new → 6 ≢ edit.table.tree → 10 ≢ edit.table.tree
+    → rows.has_spans ≡ b → HoldsSides rows.has_spans rows.slip_lines rows.slip_packs old
+    → HoldsSides rows.has_spans rows.slip_lines rows.slip_packs new
+sides_on b rows old new edit a early late fits was =
+    sides_same rows.has_spans rows.slip_lines rows.slip_packs old new
+    (others_of b old new edit a 6 (omega arith) early)
+    (λ second. a.others 10 late (subst (λ c. IsNoIndex (archive_schema c) 10) (sym second ∙ fits)
+    (no_late_index 10 (omega arith) (omega arith)))) was
 
 -- what sets off nothing in either schema
 pub no_work : (b : Bool) (db : Trees) (edit : Edit)
@@ -254,7 +253,7 @@ inserts_batch old new n is_open count b has h =
       records = keeps_on _ _ _ (same 2 (omega arith) (omega arith)) was.records;
       receipts = keeps_on _ _ _ (same 4 (omega arith) (omega arith)) was.receipts;
       slips = keeps_on _ _ _ (same 5 (omega arith) (omega arith)) was.slips;
-      slip_lines = keeps_on _ _ _ (same 6 (omega arith) (omega arith)) was.slip_lines;
+      sides = sides_on b rows db now edit applied (omega arith) (omega arith) fits was.sides;
       own = own_on b rows db now edit applied (omega arith) (omega arith) fits was.own;
     })
 
@@ -287,7 +286,7 @@ inserts_record old new n kind batch count b has h =
           (keeps_put record_values (λ (r : RecordRow). r.no) (λ _. refl) item rows.records (db 2) was.records);
       receipts = keeps_on _ _ _ (same 4 (omega arith) (omega arith)) was.receipts;
       slips = keeps_on _ _ _ (same 5 (omega arith) (omega arith)) was.slips;
-      slip_lines = keeps_on _ _ _ (same 6 (omega arith) (omega arith)) was.slip_lines;
+      sides = sides_on b rows db now edit applied (omega arith) (omega arith) fits was.sides;
       own = own_on b rows db now edit applied (omega arith) (omega arith) fits was.own;
     })
 
@@ -324,7 +323,7 @@ inserts_slip old new n keep gone is_undone count b has h =
       receipts = keeps_on _ _ _ (same 4 (omega arith) (omega arith)) was.receipts;
       slips = keeps_on _ _ (now 5) (applied.rows ∙ row)
           (keeps_put slip_values (λ (s : SlipRow). s.no) (λ _. refl) item rows.slips (db 5) was.slips);
-      slip_lines = keeps_on _ _ _ (same 6 (omega arith) (omega arith)) was.slip_lines;
+      sides = sides_on b rows db now edit applied (omega arith) (omega arith) fits was.sides;
       own = own_on b rows db now edit applied (omega arith) (omega arith) fits was.own;
     })
 
@@ -365,112 +364,11 @@ inserts_receipt old new token receipt count b has h =
           (keeps_last receipt_values (λ (r : ReceiptRow). r.id) (λ _. refl) item rows.receipts
           (db 4) refl was.receipts);
       slips = keeps_on _ _ _ (same 5 (omega arith) (omega arith)) was.slips;
-      slip_lines = keeps_on _ _ _ (same 6 (omega arith) (omega arith)) was.slip_lines;
-      own = own_on b rows db now edit applied (omega arith) (omega arith) fits was.own;
-    })
-
-pub inserts_slip_line : (old new : State) (slip : ℕ) (is_new : Bool) (n at : ℕ) (line : ℕ × Label) (count : ℕ)
-    (b : Bool) → old.now.schema ≡ archive_schema b
-    → Executes insert_slip_line (Int (pos slip) ∷ Int (pos (flag is_new)) ∷ Int (pos n) ∷ Int (pos at)
-    ∷ line_fields line) old new (Ok count) → Becomes b old new (with_slip_line slip is_new n at line)
-inserts_slip_line old new slip is_new n at line count b has h =
-    let params = Int (pos slip) ∷ Int (pos (flag is_new)) ∷ Int (pos n) ∷ Int (pos at) ∷ line_fields line in
-    let terms = lit Null ∷ lit Null ∷ col 0 0 ∷ col 0 1 ∷ col 0 2 ∷ col 0 3 ∷ col 0 4 ∷ col 0 5 ∷ col 0 6
-    ∷ col 0 7 ∷ [] in
-    let w = runs_as insert_slip_line params old new (archive_schema b) has (Insert (slip_lines_place b)
-    (Values terms 10))
-    (insert_slip_line_is b)
-    (insert_slip_line_plain b) count h in
-    let did = inserts (archive_schema b) slip_lines (slip_lines_place b) (slip_lines_listed b)
-    refl old new.now w.tally params
-    (statement_of insert_slip_line (understood (archive_schema b) insert_slip_line)) terms 10 has w.changed in
-    let db = old.now.trees in
-    let now = new.now.trees in
-    let edit = edit_of db slip_lines [] Chosen 0 (value_rows params 10 1 terms) in
-    let applied = one_step (archive_schema b) Enforced db now edit (no_work b db edit refl refl) did.1 in
-    let same = others_of b db now edit applied in
-    let fields = Null ∷ Int (pos slip) ∷ Int (pos (flag is_new)) ∷ Int (pos n) ∷ Int (pos at) ∷ line_fields line in
-    let row : edited db edit ≡ put_row (Int (next_rowid (db 6)) ∷ fields) (db 6) = rw (
-      cast_null,
-      cast_int (pos slip),
-      cast_int (pos (flag is_new)),
-      cast_int (pos n),
-      cast_int (pos at),
-      cast_int (pos line.0),
-      cast_words line.1.text,
-      cast_number line.1.target,
-    ) refl in
-    becomes b old new w.sound did.0 (λ _. refl) (λ rows fits was.
-    let item : SlipLineRow = record {
-      id = next_key (λ (s : SlipLineRow). s.id) rows.slip_lines;
-      slip = slip;
-      is_new = is_new;
-      no = n;
-      at = at;
-      line = line;
-    } in
-    record {
-      meta = same 0 (omega arith) (omega arith) ∙ was.meta;
-      batches = keeps_on _ _ _ (same 1 (omega arith) (omega arith)) was.batches;
-      records = keeps_on _ _ _ (same 2 (omega arith) (omega arith)) was.records;
-      receipts = keeps_on _ _ _ (same 4 (omega arith) (omega arith)) was.receipts;
-      slips = keeps_on _ _ _ (same 5 (omega arith) (omega arith)) was.slips;
-      slip_lines = keeps_on _ _ (now 6) (applied.rows ∙ row ∙ ap (λ i. put_row (Int i ∷ fields) (db 6))
-          (chosen_key slip_line_values (λ (s : SlipLineRow). s.id) (λ _. refl) rows.slip_lines
-          (db 6) was.slip_lines.is)) (keeps_last slip_line_values (λ (s : SlipLineRow). s.id)
-          (λ _. refl) item rows.slip_lines (db 6) refl was.slip_lines);
+      sides = sides_on b rows db now edit applied (omega arith) (omega arith) fits was.sides;
       own = own_on b rows db now edit applied (omega arith) (omega arith) fits was.own;
     })
 
 -- ---- DELETE
-
-passes_6 : (n : ℕ) (x : SlipLineRow) → list_all (holds ((Int (pos n) ∷ []) ∷ slip_line_values x ∷ []))
-    (with_key 2) ≡ (x.slip == n)
-unfolding binary
-passes_6 n x = ap (λ b. is_true (from_truth (Some b)) && true) (same_int x.slip n) ∙ truth_of (x.slip == n)
-
-no_work_6 : (b : Bool) (olds : List Row) → works (archive_schema b) Enforced 0 6 olds [] ≡ []
-unfolding same_name joined
-no_work_6 false olds = refl
-no_work_6 true olds = refl
-
-pub deletes_slip_lines : (old new : State) (n count : ℕ) (b : Bool) → old.now.schema ≡ archive_schema b
-    → Executes delete_slip_lines (Int (pos n) ∷ []) old new (Ok count) → Becomes b old new (without_slip_lines n)
-deletes_slip_lines old new n count b has h =
-    let params = Int (pos n) ∷ [] in
-    let q : Program = record { lets = []; body = simple 6 (with_key 2) (col 1 0 ∷ []) [] } in
-    let w = runs_as delete_slip_lines params old new (archive_schema b) has (Delete (slip_lines_place b) q)
-    (delete_slip_lines_is b)
-    (delete_slip_lines_plain b) count h in
-    let did = deletes (archive_schema b) slip_lines (slip_lines_place b) (slip_lines_listed b)
-    refl old new.now w.tally params
-    (statement_of delete_slip_lines (understood (archive_schema b) delete_slip_lines)) q has w.changed in
-    let found = did.1 in
-    let db = old.now.trees in
-    let now = new.now.trees in
-    let edit = edit_of db slip_lines (ids_of found) Given 0 [] in
-    let applied = one_step (archive_schema b) Enforced db now edit (no_work_6 b (taken_by db edit)) did.3 in
-    let same = others_of b db now edit applied in
-    becomes b old new w.sound did.0 (λ _. refl) (λ rows fits was.
-    let all = answered slip_line_values params (with_key 2) (λ x. x.slip == n) (passes_6 n) 6 (col 1 0 ∷ []) []
-    (overlay db []) rows.slip_lines found was.slip_lines.is (did.2.answer Null) in
-    let ids : IsPermutation
-    (map (λ x. pos ((λ (s : SlipLineRow). s.id) x)) (filter (λ (x : SlipLineRow). x.slip == n) rows.slip_lines))
-    (ids_of found) =
-    subst (λ k. IsPermutation k (ids_of found))
-    (map_map _ _ (filter (λ (x : SlipLineRow). x.slip == n) rows.slip_lines))
-    (IsPermutation-map (λ r. id_in (rowid r)) _ _ all) in
-    record {
-      meta = same 0 (omega arith) (omega arith) ∙ was.meta;
-      batches = keeps_on _ _ _ (same 1 (omega arith) (omega arith)) was.batches;
-      records = keeps_on _ _ _ (same 2 (omega arith) (omega arith)) was.records;
-      receipts = keeps_on _ _ _ (same 4 (omega arith) (omega arith)) was.receipts;
-      slips = keeps_on _ _ _ (same 5 (omega arith) (omega arith)) was.slips;
-      slip_lines = keeps_on _ _ (now 6) applied.rows
-          (keeps_less slip_line_values (λ (s : SlipLineRow). s.id) (λ _. refl) (λ x. x.slip == n) rows.slip_lines (db 6)
-          (ids_of found) ids was.slip_lines);
-      own = own_on b rows db now edit applied (omega arith) (omega arith) fits was.own;
-    })
 
 passes_2 : (n : ℕ) (x : RecordRow) → list_all (holds ((Int (pos n) ∷ []) ∷ record_values x ∷ []))
     (with_key 0) ≡ (x.no == n)
@@ -538,7 +436,7 @@ deletes_record old new n count b has h =
           (ids_of found) ids was.records);
       receipts = keeps_on _ _ _ (same 4 (omega arith) (omega arith)) was.receipts;
       slips = keeps_on _ _ _ (same 5 (omega arith) (omega arith)) was.slips;
-      slip_lines = keeps_on _ _ _ (same 6 (omega arith) (omega arith)) was.slip_lines;
+      sides = sides_on b rows db now edit applied (omega arith) (omega arith) fits was.sides;
       own = own_on b rows db now edit applied (omega arith) (omega arith) fits was.own;
     })
 
@@ -580,7 +478,7 @@ sets_next old new n count b has h =
       records = keeps_on _ _ _ (same 2 (omega arith) (omega arith)) was.records;
       receipts = keeps_on _ _ _ (same 4 (omega arith) (omega arith)) was.receipts;
       slips = keeps_on _ _ _ (same 5 (omega arith) (omega arith)) was.slips;
-      slip_lines = keeps_on _ _ _ (same 6 (omega arith) (omega arith)) was.slip_lines;
+      sides = sides_on b c db now edit applied (omega arith) (omega arith) fits was.sides;
       own = own_on b c db now edit applied (omega arith) (omega arith) fits was.own;
     })
 
@@ -615,7 +513,7 @@ inserts_meta old new society count has empty h =
         records = record { is = each 2 (omega arith) (omega arith); rise = tt };
         receipts = record { is = each 4 (omega arith) (omega arith); rise = tt };
         slips = record { is = each 5 (omega arith) (omega arith); rise = tt };
-        slip_lines = record { is = each 6 (omega arith) (omega arith); rise = tt };
+        sides = (record { is = each 6 (omega arith) (omega arith); rise = tt }, refl);
         own = (record { is = each 3 (omega arith) (omega arith); rise = tt }, refl, refl, refl, refl);
       },
     )

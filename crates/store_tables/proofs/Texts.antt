@@ -161,9 +161,10 @@ abbrev pub slips_place : Bool → ℕ
 slips_place false = 5
 slips_place true = 4
 
-abbrev pub slip_lines_place : Bool → ℕ
-slip_lines_place false = 6
-slip_lines_place true = 5
+-- the tree of the lines of slips
+abbrev pub sides_tree : Bool → ℕ
+sides_tree false = 6
+sides_tree true = 10
 
 pub receipts_listed : (b : Bool) → slice_get (archive_schema b).tables (receipts_place b) ≡ Some receipts
 receipts_listed false = refl
@@ -172,10 +173,6 @@ receipts_listed true = refl
 pub slips_listed : (b : Bool) → slice_get (archive_schema b).tables (slips_place b) ≡ Some slips
 slips_listed false = refl
 slips_listed true = refl
-
-pub slip_lines_listed : (b : Bool) → slice_get (archive_schema b).tables (slip_lines_place b) ≡ Some slip_lines
-slip_lines_listed false = refl
-slip_lines_listed true = refl
 
 -- the table of lines: its place, its tree, and where a row has the number of the record
 abbrev pub lines_place : Bool → ℕ
@@ -365,38 +362,6 @@ unfolding understood everything
 undo_slip_plain false = (refl, refl)
 undo_slip_plain true = (refl, refl)
 
-abbrev pub insert_slip_line : List ℕ
-insert_slip_line = codes
-    "INSERT INTO slip_line (slip, side, no, pos, depth, tag, text, dst) VALUES (?1, ?2, ?3, ?4, ?5, ?6, ?7, ?8)"
-
-pub insert_slip_line_is : (b : Bool) → command_of (understood (archive_schema b) insert_slip_line) ≡
-    Insert (slip_lines_place b)
-    (Values (lit Null ∷ lit Null ∷ col 0 0 ∷ col 0 1 ∷ col 0 2 ∷ col 0 3 ∷ col 0 4 ∷ col 0 5 ∷ col 0 6 ∷ col 0 7 ∷ [])
-    10)
-unfolding understood everything
-insert_slip_line_is false = refl
-insert_slip_line_is true = refl
-
-pub insert_slip_line_plain : (b : Bool) → IsPlain (understood (archive_schema b) insert_slip_line)
-unfolding understood everything
-insert_slip_line_plain false = (refl, refl)
-insert_slip_line_plain true = (refl, refl)
-
-abbrev pub delete_slip_lines : List ℕ
-delete_slip_lines = codes "DELETE FROM slip_line WHERE slip = ?1"
-
-pub delete_slip_lines_is : (b : Bool) → command_of (understood (archive_schema b) delete_slip_lines) ≡
-    Delete (slip_lines_place b)
-    (record { lets = []; body = simple 6 (with_key 2) (col 1 0 ∷ []) [] })
-unfolding understood everything
-delete_slip_lines_is false = refl
-delete_slip_lines_is true = refl
-
-pub delete_slip_lines_plain : (b : Bool) → IsPlain (understood (archive_schema b) delete_slip_lines)
-unfolding understood everything
-delete_slip_lines_plain false = (refl, refl)
-delete_slip_lines_plain true = (refl, refl)
-
 abbrev pub select_slips : List ℕ
 select_slips = codes "SELECT no, keep, gone, undone FROM slip ORDER BY no"
 
@@ -423,7 +388,7 @@ select_slip_lines = codes "SELECT slip, side, no, depth, tag, text, dst FROM sli
 pub select_slip_lines_is : (b : Bool) → command_of (understood (archive_schema b) select_slip_lines) ≡ Select
     (record {
       lets = [];
-      body = simple 6 [] (col 1 2 ∷ col 1 3 ∷ col 1 4 ∷ col 1 6 ∷ col 1 7 ∷ col 1 8 ∷ col 1 9 ∷ [])
+      body = simple (sides_tree b) [] (col 1 2 ∷ col 1 3 ∷ col 1 4 ∷ col 1 6 ∷ col 1 7 ∷ col 1 8 ∷ col 1 9 ∷ [])
           by_key;
     }) (codes "slip" ∷ codes "side" ∷ codes "no" ∷ codes "depth" ∷ codes "tag" ∷ codes "text" ∷ codes "dst" ∷ [])
 unfolding understood everything

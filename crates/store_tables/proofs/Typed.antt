@@ -18,10 +18,9 @@ use Rattle.std.proofs.Common.{
 }
 use Rattle.std.specs.Ordering.{match_ordering}
 use Rattle.std.specs.List.{AllByRecursion}
-use Rattle.stored_lines.specs.Line.{Label}
 use Rattle.receipts.specs.Tokens.{IsToken}
 use Rattle.receipts.specs.declared.answer.Receipt.{Receipt}
-use Rattle.store_tables.specs.Reading.{AreTyped, IsU32, IsTypedLine, IsTypedReceipt, IsTypedSlip}
+use Rattle.store_tables.specs.Reading.{AreTyped, IsU32, IsTypedReceipt, IsTypedSlip}
 use Rattle.store_tables.specs.Rows.{
   Rows,
   BatchRow,
@@ -42,8 +41,6 @@ use Rattle.store_tables.specs.Rows.{
   with_slip_row,
   with_undone,
   undone_at,
-  with_slip_line,
-  without_slip_lines,
 }
 use Rattle.store_tables.proofs.Coded.{kept_by}
 use Rattle.list_laws.proofs.Lists.{all_then}
@@ -71,6 +68,7 @@ typed_next n rows t = record {
   receipts = t.receipts;
   slips = t.slips;
   slip_lines = t.slip_lines;
+  slip_packs = t.slip_packs;
   spans = t.spans;
   links = t.links;
   soughts = t.soughts;
@@ -90,6 +88,7 @@ typed_batch n is_open low rows t =
       receipts = t.receipts;
       slips = t.slips;
       slip_lines = t.slip_lines;
+      slip_packs = t.slip_packs;
       spans = t.spans;
       links = t.links;
       soughts = t.soughts;
@@ -116,6 +115,7 @@ typed_closed n rows t = record {
   receipts = t.receipts;
   slips = t.slips;
   slip_lines = t.slip_lines;
+  slip_packs = t.slip_packs;
   spans = t.spans;
   links = t.links;
   soughts = t.soughts;
@@ -133,6 +133,7 @@ typed_less_batch n rows t = record {
   receipts = t.receipts;
   slips = t.slips;
   slip_lines = t.slip_lines;
+  slip_packs = t.slip_packs;
   spans = t.spans;
   links = t.links;
   soughts = t.soughts;
@@ -150,6 +151,7 @@ typed_less_lines_from n at rows t = record {
   receipts = t.receipts;
   slips = t.slips;
   slip_lines = t.slip_lines;
+  slip_packs = t.slip_packs;
   spans = t.spans;
   links = t.links;
   soughts = t.soughts;
@@ -168,6 +170,7 @@ typed_record n kind batch low first rows t = record {
   receipts = t.receipts;
   slips = t.slips;
   slip_lines = t.slip_lines;
+  slip_packs = t.slip_packs;
   spans = t.spans;
   links = t.links;
   soughts = t.soughts;
@@ -198,6 +201,7 @@ typed_record_at n kind batch low rows t = record {
   receipts = t.receipts;
   slips = t.slips;
   slip_lines = t.slip_lines;
+  slip_packs = t.slip_packs;
   spans = t.spans;
   links = t.links;
   soughts = t.soughts;
@@ -215,6 +219,7 @@ typed_less_record n rows t = record {
   receipts = t.receipts;
   slips = t.slips;
   slip_lines = t.slip_lines;
+  slip_packs = t.slip_packs;
   spans = t.spans;
   links = t.links;
   soughts = t.soughts;
@@ -232,6 +237,7 @@ typed_less_lines n rows t = record {
   receipts = t.receipts;
   slips = t.slips;
   slip_lines = t.slip_lines;
+  slip_packs = t.slip_packs;
   spans = t.spans;
   links = t.links;
   soughts = t.soughts;
@@ -250,6 +256,7 @@ typed_receipt token receipt is kept rows t = record {
   receipts = all_then _ rows.receipts _ t.receipts (is, kept);
   slips = t.slips;
   slip_lines = t.slip_lines;
+  slip_packs = t.slip_packs;
   spans = t.spans;
   links = t.links;
   soughts = t.soughts;
@@ -269,6 +276,7 @@ typed_slip n keep gone is_undone a b c rows t = record {
   slips = put_all IsTypedSlip (λ (s : SlipRow). s.no) _ rows.slips
       (a, b, c) t.slips;
   slip_lines = t.slip_lines;
+  slip_packs = t.slip_packs;
   spans = t.spans;
   links = t.links;
   soughts = t.soughts;
@@ -295,41 +303,7 @@ typed_undone n rows t = record {
   receipts = t.receipts;
   slips = undone_all n rows.slips t.slips;
   slip_lines = t.slip_lines;
-  spans = t.spans;
-  links = t.links;
-  soughts = t.soughts;
-}
-
-pub typed_slip_line : (slip : ℕ) (is_new : Bool) (n at : ℕ) (line : ℕ × Label) → IsU32 slip → IsU32 n → IsTypedLine line
-    → (rows : Rows) → AreTyped rows → AreTyped (with_slip_line slip is_new n at line rows)
-typed_slip_line slip is_new n at line a b is rows t = record {
-  version = t.version;
-  dated = t.dated;
-  society = t.society;
-  batches = t.batches;
-  records = t.records;
-  lines = t.lines;
-  packs = t.packs;
-  receipts = t.receipts;
-  slips = t.slips;
-  slip_lines = all_then _ rows.slip_lines _ t.slip_lines (a, b, is);
-  spans = t.spans;
-  links = t.links;
-  soughts = t.soughts;
-}
-
-pub typed_less_slip_lines : (n : ℕ) (rows : Rows) → AreTyped rows → AreTyped (without_slip_lines n rows)
-typed_less_slip_lines n rows t = record {
-  version = t.version;
-  dated = t.dated;
-  society = t.society;
-  batches = t.batches;
-  records = t.records;
-  lines = t.lines;
-  packs = t.packs;
-  receipts = t.receipts;
-  slips = t.slips;
-  slip_lines = kept_by _ _ rows.slip_lines t.slip_lines;
+  slip_packs = t.slip_packs;
   spans = t.spans;
   links = t.links;
   soughts = t.soughts;

@@ -76,6 +76,7 @@ use Rattle.store_tables.proofs.Statements.{
   no_work,
   others_of,
   own_on,
+  sides_on,
   only_restricted,
   only_restricted_slips,
   truth_of,
@@ -134,7 +135,7 @@ updates_record old new n kind batch count b has h =
                       (sym (none_changed key n g rows.records none)) (keeps_on _ _ (now 2) applied.rows was.records);
                   receipts = keeps_on _ _ _ (same 4 (omega arith) (omega arith)) was.receipts;
                   slips = keeps_on _ _ _ (same 5 (omega arith) (omega arith)) was.slips;
-                  slip_lines = keeps_on _ _ _ (same 6 (omega arith) (omega arith)) was.slip_lines;
+                  sides = sides_on b rows db now edit applied (omega arith) (omega arith) fits was.sides;
                   own = own_on b rows db now edit applied (omega arith) (omega arith) fits was.own;
                 }
             | inr (x, one, here) ↦
@@ -156,7 +157,7 @@ updates_record old new n kind batch count b has h =
                       (keeps_changed record_values key (λ _. refl) n g x rows.records (db 2) one here here was.records);
                   receipts = keeps_on _ _ _ (same 4 (omega arith) (omega arith)) was.receipts;
                   slips = keeps_on _ _ _ (same 5 (omega arith) (omega arith)) was.slips;
-                  slip_lines = keeps_on _ _ _ (same 6 (omega arith) (omega arith)) was.slip_lines;
+                  sides = sides_on b rows db now edit applied (omega arith) (omega arith) fits was.sides;
                   own = own_on b rows db now edit applied (omega arith) (omega arith) fits was.own;
                 }
           ]),
@@ -218,7 +219,7 @@ undoes_slip old new n count b has h =
                   receipts = keeps_on _ _ _ (same 4 (omega arith) (omega arith)) was.receipts;
                   slips = subst (λ xs. Keeps slip_values key xs (now 5)) (sym (none_changed key n g rows.slips none))
                       (keeps_on _ _ (now 5) applied.rows was.slips);
-                  slip_lines = keeps_on _ _ _ (same 6 (omega arith) (omega arith)) was.slip_lines;
+                  sides = sides_on b rows db now edit applied (omega arith) (omega arith) fits was.sides;
                   own = own_on b rows db now edit applied (omega arith) (omega arith) fits was.own;
                 }
             | inr (x, one, here) ↦
@@ -245,7 +246,7 @@ undoes_slip old new n count b has h =
                   receipts = keeps_on _ _ _ (same 4 (omega arith) (omega arith)) was.receipts;
                   slips = keeps_on _ _ (now 5) (applied.rows ∙ row ∙ away)
                       (keeps_changed slip_values key (λ _. refl) n g x rows.slips (db 5) one here here was.slips);
-                  slip_lines = keeps_on _ _ _ (same 6 (omega arith) (omega arith)) was.slip_lines;
+                  sides = sides_on b rows db now edit applied (omega arith) (omega arith) fits was.sides;
                   own = own_on b rows db now edit applied (omega arith) (omega arith) fits was.own;
                 }
           ]),

@@ -8,7 +8,7 @@ use Rattle.sqlite.specs.Table.{Table}
 use Rattle.sqlite.specs.Tree.{Trees}
 use Rattle.store_tables.specs.Calls.{Inside, Widened}
 use Rattle.store_tables.specs.Creating.{IsCreate}
-use Rattle.store_tables.specs.Rows.{Rows, HoldsOwn, Keeps, with_later_tables}
+use Rattle.store_tables.specs.Rows.{Rows, HoldsOwn, HoldsSides, Keeps, with_later_tables}
 use Rattle.store_tables.specs.Schema.{
   archive_schema,
   both_and,
@@ -17,9 +17,12 @@ use Rattle.store_tables.specs.Schema.{
   links,
   packs,
   pasts,
+  slip_lines,
+  slip_packs,
   sought_by_text,
   soughts,
   spans,
+  without_record_lines,
 }
 use Rattle.store_tables.proofs.Calls.{stay_empty}
 use Rattle.store_tables.proofs.Coded.{keeps_on}
@@ -32,15 +35,19 @@ use Rattle.store_tables.proofs.LaterTexts.{
   create_soughts,
   create_spans,
   drop_lines,
+  drop_slip_lines,
   drops_lines,
+  drops_slip_lines,
   makes_links,
   makes_packs,
   makes_pasts,
+  makes_slip_packs,
   makes_sought_by_text,
   makes_soughts,
   makes_spans,
 }
 use Rattle.store_tables.proofs.SpanTyped.{typed_later_tables}
+use Rattle.store_tables.proofs.Texts.{create_slip_line}
 use Rattle.list_laws.proofs.Lists.{all_then}
 
 -- where the rows stay twice, they stay
@@ -48,12 +55,17 @@ kept_twice : (ts : List Table) (a b c : Trees) → KeepsRows ts a b → KeepsRow
 kept_twice [] a b c p q = tt
 kept_twice (t ∷ ts) a b c p q = (q.0 ∙ p.0, kept_twice ts a b c p.1 q.1)
 
+-- what stays of tables and one more stays of them
+but_last : (ts : List Table) (t : Table) (a b : Trees) → KeepsRows (ts ++ t ∷ []) a b → KeepsRows ts a b
+but_last [] t a b h = tt
+but_last (u ∷ us) t a b h = (h.0, but_last us t a b h.1)
+
 -- what stays of all tables stays of those that both schemas have and of those behind them
 first_kept : (more : List Table) (old new : Trees) → KeepsRows (both_and more).tables old new
     → KeepsRows (both_tables) old new × KeepsRows more old new
 first_kept more old new all = (
-  (all.0, (all.1.0, (all.1.1.0, (all.1.1.1.0, (all.1.1.1.1.0, (all.1.1.1.1.1.0, tt)))))),
-  all.1.1.1.1.1.1,
+  (all.0, (all.1.0, (all.1.1.0, (all.1.1.1.0, (all.1.1.1.1.0, tt))))),
+  all.1.1.1.1.1,
 )
 
 -- one table more
@@ -77,50 +89,60 @@ widens base old new count text table made more is after at ran was =
       ran.1.committed_is,
     )
 
+pub adds_sides : (base : Trees) (old new : State) (count : ℕ)
+    → ExecutesInside 0 create_slip_line [] old new (Ok count) → Widened base old []
+    → Widened base new (slip_packs ∷ []) × (new.committed ≡ old.committed)
+adds_sides base old new count = widens base old new count create_slip_line (record slip_packs { tree = 0 }) slip_packs
+    [] makes_slip_packs refl refl
+
 pub adds_packs : (base : Trees) (old new : State) (count : ℕ) → ExecutesInside 0 create_packs [] old new (Ok count)
-    → Widened base old [] → Widened base new (packs ∷ []) × (new.committed ≡ old.committed)
-adds_packs base old new count = widens base old new count create_packs (record packs { tree = 0 }) packs [] makes_packs
-    refl refl
+    → Widened base old (slip_packs ∷ []) → Widened base new (slip_packs ∷ packs ∷ []) × (new.committed ≡ old.committed)
+adds_packs base old new count = widens base old new count create_packs (record packs { tree = 0 }) packs
+    (slip_packs ∷ []) makes_packs refl refl
 
 pub adds_spans : (base : Trees) (old new : State) (count : ℕ) → ExecutesInside 0 create_spans [] old new (Ok count)
-    → Widened base old (packs ∷ []) → Widened base new (packs ∷ spans ∷ []) × (new.committed ≡ old.committed)
-adds_spans base old new count = widens base old new count create_spans (record spans { tree = 0 }) spans (packs ∷ [])
-    makes_spans refl refl
+    → Widened base old (slip_packs ∷ packs ∷ [])
+    → Widened base new (slip_packs ∷ packs ∷ spans ∷ []) × (new.committed ≡ old.committed)
+adds_spans base old new count = widens base old new count create_spans (record spans { tree = 0 }) spans
+    (slip_packs ∷ packs ∷ []) makes_spans refl refl
 
 pub adds_links : (base : Trees) (old new : State) (count : ℕ) → ExecutesInside 0 create_links [] old new (Ok count)
-    → Widened base old (packs ∷ spans ∷ [])
-    → Widened base new (packs ∷ spans ∷ links ∷ []) × (new.committed ≡ old.committed)
+    → Widened base old (slip_packs ∷ packs ∷ spans ∷ [])
+    → Widened base new (slip_packs ∷ packs ∷ spans ∷ links ∷ []) × (new.committed ≡ old.committed)
 adds_links base old new count = widens base old new count create_links (record links { tree = 0 }) links
-    (packs ∷ spans ∷ []) makes_links refl refl
+    (slip_packs ∷ packs ∷ spans ∷ []) makes_links refl refl
 
 pub adds_soughts : (base : Trees) (old new : State) (count : ℕ)
-    → ExecutesInside 0 create_soughts [] old new (Ok count) → Widened base old (packs ∷ spans ∷ links ∷ [])
-    → Widened base new (packs ∷ spans ∷ links ∷ soughts ∷ []) × (new.committed ≡ old.committed)
+    → ExecutesInside 0 create_soughts [] old new (Ok count) → Widened base old (slip_packs ∷ packs ∷ spans ∷ links ∷ [])
+    → Widened base new (slip_packs ∷ packs ∷ spans ∷ links ∷ soughts ∷ []) × (new.committed ≡ old.committed)
 adds_soughts base old new count = widens base old new count create_soughts (record soughts { tree = 0 }) soughts
-    (packs ∷ spans ∷ links ∷ []) makes_soughts refl refl
+    (slip_packs ∷ packs ∷ spans ∷ links ∷ []) makes_soughts refl refl
 
 pub adds_pasts : (base : Trees) (old new : State) (count : ℕ) → ExecutesInside 0 create_pasts [] old new (Ok count)
-    → Widened base old (packs ∷ spans ∷ links ∷ soughts ∷ [])
-    → Widened base new (packs ∷ spans ∷ links ∷ soughts ∷ pasts ∷ []) × (new.committed ≡ old.committed)
+    → Widened base old (slip_packs ∷ packs ∷ spans ∷ links ∷ soughts ∷ [])
+    → Widened base new (slip_packs ∷ packs ∷ spans ∷ links ∷ soughts ∷ pasts ∷ []) × (new.committed ≡ old.committed)
 adds_pasts base old new count = widens base old new count create_pasts (record pasts { tree = 0 }) pasts
-    (packs ∷ spans ∷ links ∷ soughts ∷ []) makes_pasts refl refl
+    (slip_packs ∷ packs ∷ spans ∷ links ∷ soughts ∷ []) makes_pasts refl refl
 
--- tables of the first schema without the lines, before the first of these calls
-pub loses_lines : (old new : State) (rows : Rows) (count : ℕ) → rows.has_spans ≡ false
-    → ExecutesInside 0 drop_lines [] old new (Ok count) → Inside old rows
-    → Widened old.now.trees new [] × (new.committed ≡ old.committed)
-loses_lines old new rows count undated ran was =
-    let did = drops (archive_schema false) drop_lines 3 lines old new count drops_lines
-    (was.schema ∙ ap archive_schema undated) ran.0 in (
+-- tables of the first schema without the lines, and then without those of slips, before the first of these calls
+pub loses_lines : (old mid new : State) (rows : Rows) (count more : ℕ) → rows.has_spans ≡ false
+    → ExecutesInside 0 drop_lines [] old mid (Ok count) → ExecutesInside 0 drop_slip_lines [] mid new (Ok more)
+    → Inside old rows → Widened old.now.trees new [] × (new.committed ≡ old.committed)
+loses_lines old mid new rows count more undated first second was =
+    let one = drops (archive_schema false) drop_lines 3 lines old mid count drops_lines
+    (was.schema ∙ ap archive_schema undated) first.0 in
+    let two = drops without_record_lines drop_slip_lines 5 slip_lines mid new more drops_slip_lines one.schema_is
+    second.0 in (
       record {
-        is_open = ran.1.is_open;
-        inside = ran.1.mode;
-        schema = did.schema_is;
-        sound = did.sound;
-        same = did.rows;
+        is_open = second.1.is_open;
+        inside = second.1.mode;
+        schema = two.schema_is;
+        sound = two.sound;
+        same = kept_twice both_tables old.now.trees mid.now.trees new.now.trees
+            (but_last both_tables slip_lines old.now.trees mid.now.trees one.rows) two.rows;
         empty = tt;
       },
-      ran.1.committed_is,
+      second.1.committed_is ∙ first.1.committed_is,
     )
 
 no_rows : {X : Type 0} (values : X → Row) (key : X → ℕ) (xs : List X) (rows : List Row) → xs ≡ [] → rows ≡ []
@@ -130,11 +152,11 @@ no_rows values key xs rows none empty = subst (λ ys. Keeps values key ys rows) 
 
 -- and behind the last
 pub all_widened : (base new last : State) (rows : Rows) (count : ℕ) → rows.has_spans ≡ false → Inside base rows
-    → Widened base.now.trees new (packs ∷ spans ∷ links ∷ soughts ∷ pasts ∷ [])
+    → Widened base.now.trees new (slip_packs ∷ packs ∷ spans ∷ links ∷ soughts ∷ pasts ∷ [])
     → ExecutesInside 0 create_sought_by_text [] new last (Ok count)
     → Inside last (with_later_tables rows) × (last.committed ≡ new.committed)
 all_widened base new last rows count undated began was ran =
-    let more = packs ∷ spans ∷ links ∷ soughts ∷ pasts ∷ [] in
+    let more = slip_packs ∷ packs ∷ spans ∷ links ∷ soughts ∷ pasts ∷ [] in
     let did = creates_index (both_and more) create_sought_by_text 9 soughts
     (record sought_by_text { tree = 0 }) new last count makes_sought_by_text
     was.schema ran.0 in
@@ -143,7 +165,8 @@ all_widened base new last rows count undated began was ran =
     let empty = stay_empty new.now.trees last.now.trees more kept.1 was.empty in
     let held = began.good.holds in
     let none = subst (λ b. HoldsOwn b rows.lines rows.packs rows.spans rows.links rows.soughts base.now.trees) undated
-    held.own in (
+    held.own in
+    let sides = subst (λ b. HoldsSides b rows.slip_lines rows.slip_packs base.now.trees) undated held.sides in (
       record {
         is_open = ran.1.is_open;
         inside = ran.1.mode;
@@ -156,14 +179,14 @@ all_widened base new last rows count undated began was ran =
             records = keeps_on _ _ _ same.1.1.0 held.records;
             receipts = keeps_on _ _ _ same.1.1.1.0 held.receipts;
             slips = keeps_on _ _ _ same.1.1.1.1.0 held.slips;
-            slip_lines = keeps_on _ _ _ same.1.1.1.1.1.0 held.slip_lines;
+            sides = (refl, no_rows _ _ rows.slip_packs (last.now.trees 10) sides.1 empty.0);
             own = (
               refl,
               record {
-                packs_kept = no_rows _ _ rows.packs (last.now.trees 11) none.1 empty.0;
-                spans_kept = no_rows _ _ rows.spans (last.now.trees 12) none.2 empty.1.0;
-                links_kept = no_rows _ _ rows.links (last.now.trees 13) none.3 empty.1.1.0;
-                soughts_kept = no_rows _ _ rows.soughts (last.now.trees 14) none.4 empty.1.1.1.0;
+                packs_kept = no_rows _ _ rows.packs (last.now.trees 11) none.1 empty.1.0;
+                spans_kept = no_rows _ _ rows.spans (last.now.trees 12) none.2 empty.1.1.0;
+                links_kept = no_rows _ _ rows.links (last.now.trees 13) none.3 empty.1.1.1.0;
+                soughts_kept = no_rows _ _ rows.soughts (last.now.trees 14) none.4 empty.1.1.1.1.0;
               },
             );
           };

@@ -7,9 +7,16 @@ use Rattle.sqlite.specs.Order.{Row, column}
 use Rattle.stored_lines.specs.Line.{Label}
 use Rattle.packed_lines.specs.Packed.{packed}
 pub use Rattle.packed_lines.specs.Packed.{FailsUnless}
-use Rattle.store_tables.specs.Reading.{HaveTop, IsTypedLine, IsTypedPack, read_pack}
-use Rattle.store_tables.specs.Rows.{Rows, PackRow, first_tag, first_target, words_or_null, number_or_null}
-use Rattle.store_tables.specs.Shown.{shown_pack}
+use Rattle.store_tables.specs.Reading.{HaveTop, IsTypedLine, IsTypedPack, IsTypedSlipPack, read_pack, read_slip_pack}
+use Rattle.store_tables.specs.Rows.{
+  Rows,
+  SlipSide,
+  first_tag,
+  first_target,
+  words_or_null,
+  number_or_null,
+}
+use Rattle.store_tables.specs.Shown.{shown_pack, shown_slip_pack}
 
 -- the next number and the society
 abbrev pub read_meta : Rows → ℕ × List ℕ
@@ -23,11 +30,12 @@ IsReadBy {X} shown read row item = (x : X) → row ≡ shown x → item ≡ read
 abbrev pub IsReadAs : {X Y : Type 0} → (X → Row) → (X → Y) → (Row → Y → Type 0) → Row → Y → Type 0
 IsReadAs shown read Shows row item = IsReadBy shown read row item × Shows row item
 
--- lines that the last three columns show: the tag of the first one, their text, and the number that the first one names
-pub record HasPack (row : Row) (lines : List (ℕ × Label)) : Type 0 where
-  pub tag : column row 1 ≡ Words (first_tag lines)
-  pub text : column row 2 ≡ Words (packed lines)
-  pub target : column row 3 ≡ number_or_null (first_target lines)
+-- lines that three columns show, from a place on: the tag of the first one, their text, and the number that the first
+-- one names
+pub record HasPack (row : Row) (at : ℕ) (lines : List (ℕ × Label)) : Type 0 where
+  pub tag : column row at ≡ Words (first_tag lines)
+  pub text : column row (at + 1) ≡ Words (packed lines)
+  pub target : column row (at + 2) ≡ number_or_null (first_target lines)
   pub utf8 : IsUtf8 (packed lines)
   pub top : HaveTop lines
   pub typed : AllByRecursion IsTypedLine lines
@@ -36,10 +44,17 @@ pub record HasPack (row : Row) (lines : List (ℕ × Label)) : Type 0 where
 abbrev pub IsTop : ℕ × Label → List (ℕ × Label) → Type 0
 IsTop first lines = (first.0 ≡ 0) × (below : List (ℕ × Label)) × (lines ≡ first ∷ below)
 
--- the same of lines in one row, whose text is read as the one list of typed lines that has it
-abbrev pub IsPackReadAs : (Row → ℕ × List (ℕ × Label) → Type 0) → Row → ℕ × List (ℕ × Label) → Type 0
-IsPackReadAs Shows row item = ((p : PackRow) → IsTypedPack p → row ≡ shown_pack p → item ≡ read_pack p)
+-- the same of values that are those of the program's types
+abbrev pub IsTypedReadAs : {X Y : Type 0} → (X → Type 0) → (X → Row) → (X → Y) → (Row → Y → Type 0) → Row → Y → Type 0
+IsTypedReadAs {X} IsTyped shown read Shows row item = ((x : X) → IsTyped x → row ≡ shown x → item ≡ read x)
     × Shows row item
+
+-- lines in one row, whose text is read as the one list of typed lines that has it
+abbrev pub IsPackReadAs : (Row → ℕ × List (ℕ × Label) → Type 0) → Row → ℕ × List (ℕ × Label) → Type 0
+IsPackReadAs = IsTypedReadAs IsTypedPack shown_pack read_pack
+
+abbrev pub IsSlipPackReadAs : (Row → ℕ × SlipSide → Type 0) → Row → ℕ × SlipSide → Type 0
+IsSlipPackReadAs = IsTypedReadAs IsTypedSlipPack shown_slip_pack read_slip_pack
 
 -- the row shows something whose values are those of the program's types
 abbrev pub ShowsTyped : {X : Type 0} → (X → Row) → (X → Type 0) → Row → Type 0

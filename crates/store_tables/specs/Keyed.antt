@@ -1,5 +1,23 @@
 -- The rows of one number or of one token, as they are read.
-use Rattle.std.specs.Prelude.{ℕ, ◌≡◌, ◌==◌, ◌&&◌, Bool, false, List, [], ◌∷◌, map, filter, bytes_eq, Option, Some, None}
+use Rattle.std.specs.Prelude.{
+  ℕ,
+  ◌≡◌,
+  ◌==◌,
+  ◌&&◌,
+  Bool,
+  false,
+  List,
+  [],
+  ◌∷◌,
+  ◌++◌,
+  map,
+  filter,
+  flat_map,
+  bytes_eq,
+  Option,
+  Some,
+  None,
+}
 use Rattle.stored_lines.specs.Line.{Label}
 use Rattle.receipts.specs.declared.answer.Receipt.{Receipt}
 use Rattle.store_tables.specs.Rows.{
@@ -10,10 +28,19 @@ use Rattle.store_tables.specs.Rows.{
   ReceiptRow,
   SlipRow,
   SlipLineRow,
+  SlipPackRow,
+  SlipSide,
   LinkRow,
   SoughtRow,
 }
-use Rattle.store_tables.specs.Reading.{read_pack, read_record, read_receipt, read_slip_line}
+use Rattle.store_tables.specs.Reading.{
+  lines_in_pack,
+  read_pack,
+  read_record,
+  read_receipt,
+  read_slip_line,
+  read_slip_pack,
+}
 
 -- the one item of a list, where it has one
 abbrev pub IsOnly : {X : Type 0} → List X → Option X → Type 0
@@ -43,9 +70,14 @@ lines_within (Some p) = p.1
 abbrev pub slips_at : ℕ → Rows → List SlipRow
 slips_at n rows = filter (λ (s : SlipRow). s.no == n) rows.slips
 
+-- the sides of a slip
+abbrev pub slip_packs_at : ℕ → Rows → List (ℕ × SlipSide)
+slip_packs_at n rows = map read_slip_pack (filter (λ (s : SlipPackRow). s.slip == n) rows.slip_packs)
+
 -- the lines of a slip
 abbrev pub slip_lines_at : ℕ → Rows → List (ℕ × (Bool × (ℕ × (ℕ × Label))))
 slip_lines_at n rows = map read_slip_line (filter (λ (s : SlipLineRow). s.slip == n) rows.slip_lines)
+    ++ flat_map lines_in_pack (slip_packs_at n rows)
 
 -- whether a number that may be missing is this one
 abbrev pub is_number : ℕ → Option ℕ → Bool

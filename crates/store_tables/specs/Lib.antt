@@ -10,4 +10,5 @@ pub mod Rows
 pub mod Schema
 pub mod Showing
 pub mod Shown
+pub mod Sides
 pub mod Telling

@@ -1,6 +1,25 @@
 -- What the queries show of the rows: all but the keys that say nothing, the kinds, and the places of lines, which are
 -- in order.
-use Rattle.std.specs.Prelude.{ℕ, ℤ, Bool, true, List, [], ◌∷◌, map, length, ◌≡◌, ◌⊎◌, ◌^◌, ◌/◌, ◌%◌, IfSome, FitsSigned}
+use Rattle.std.specs.Prelude.{
+  ℕ,
+  ℤ,
+  Bool,
+  true,
+  List,
+  [],
+  ◌∷◌,
+  ◌++◌,
+  map,
+  flat_map,
+  length,
+  ◌≡◌,
+  ◌⊎◌,
+  ◌^◌,
+  ◌/◌,
+  ◌%◌,
+  IfSome,
+  FitsSigned,
+}
 use Rattle.std.specs.Int.{w32}
 use Rattle.std.specs.Str.{IsUtf8}
 use Rattle.std.specs.List.{AllByRecursion}
@@ -17,9 +36,12 @@ use Rattle.store_tables.specs.Rows.{
   ReceiptRow,
   SlipRow,
   SlipLineRow,
+  SlipPackRow,
+  SlipSide,
   SpanRow,
   LinkRow,
   SoughtRow,
+  lines_in_side,
   link_place,
   slip_line_of,
 }
@@ -38,7 +60,8 @@ pub record ReadRows : Type 0 where
   -- receipts, each with its token
   pub receipts : List (List ℕ × Receipt)
   pub slips : List SlipRow
-  -- stored lines, each with its slip, its side and the number of its record
+  -- stored lines, each with its slip, its side and the number of its record: those in rows of their own, and those of
+  -- sides in one row
   pub slip_lines : List (ℕ × (Bool × (ℕ × (ℕ × Label))))
 
 abbrev pub read_record : RecordRow → ℕ × ℕ
@@ -56,6 +79,17 @@ read_receipt r = (r.token, r.receipt)
 abbrev pub read_slip_line : SlipLineRow → ℕ × (Bool × (ℕ × (ℕ × Label)))
 read_slip_line s = (s.slip, slip_line_of s)
 
+abbrev pub read_slip_pack : SlipPackRow → ℕ × SlipSide
+read_slip_pack s = (s.slip, s.side)
+
+-- the lines of a side, each with the slip
+abbrev pub lines_in_pack : ℕ × SlipSide → List (ℕ × (Bool × (ℕ × (ℕ × Label))))
+lines_in_pack p = map (λ l. (p.0, l)) (lines_in_side p.1)
+
+-- all lines of slips, as they are read
+abbrev pub read_sides : Rows → List (ℕ × (Bool × (ℕ × (ℕ × Label))))
+read_sides rows = map read_slip_line rows.slip_lines ++ flat_map lines_in_pack (map read_slip_pack rows.slip_packs)
+
 -- the pair at a place among all pairs of numbers of 32 bits
 abbrev pub pair_at : ℕ → LinkRow
 pair_at place = record { target = place / 2 ^ 32; no = place % 2 ^ 32 }
@@ -72,7 +106,7 @@ read_of rows = record {
   packs = map read_pack rows.packs;
   receipts = map read_receipt rows.receipts;
   slips = rows.slips;
-  slip_lines = map read_slip_line rows.slip_lines;
+  slip_lines = read_sides rows;
 }
 
 -- ---- values that the program's types have
@@ -90,6 +124,14 @@ pub record IsTypedPack (p : PackRow) : Type 0 where
   pub top : HaveTop p.lines
   pub lines : AllByRecursion IsTypedLine p.lines
   pub text : IsUtf8 (packed p.lines)
+
+pub record IsTypedSlipPack (s : SlipPackRow) : Type 0 where
+  pub slip : IsU32 s.slip
+  pub place : IsU32 s.place
+  pub number : IsU32 s.side.1.0
+  pub top : HaveTop s.side.1.1
+  pub lines : AllByRecursion IsTypedLine s.side.1.1
+  pub text : IsUtf8 (packed s.side.1.1)
 
 abbrev pub IsTypedReceipt : Receipt → Type 0
 IsTypedReceipt r = (length r.digest ≡ 32) × IsU32 r.answer.first × IsU32 r.answer.count
@@ -123,6 +165,7 @@ pub record AreTyped (rows : Rows) : Type 0 where
   pub receipts : AllByRecursion (λ (r : ReceiptRow). IsToken r.token × IsTypedReceipt r.receipt) rows.receipts
   pub slips : AllByRecursion IsTypedSlip rows.slips
   pub slip_lines : AllByRecursion (λ (s : SlipLineRow). IsU32 s.slip × IsU32 s.no × IsTypedLine s.line) rows.slip_lines
+  pub slip_packs : AllByRecursion IsTypedSlipPack rows.slip_packs
   pub spans : AllByRecursion IsTypedSpan rows.spans
   pub links : AllByRecursion IsTypedLink rows.links
   pub soughts : AllByRecursion IsTypedSought rows.soughts

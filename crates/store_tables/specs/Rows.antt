@@ -72,7 +72,8 @@ pub record SlipRow : Type 0 where
   pub gone : ℕ
   pub is_undone : Bool
 
--- a stored line of the record that a number had before a merge (the old side), or has after it
+-- a stored line of the record that a number had before a merge (the old side), or has after it: a row of the first
+-- schema
 pub record SlipLineRow : Type 0 where
   pub id : ℕ
   pub slip : ℕ
@@ -80,6 +81,16 @@ pub record SlipLineRow : Type 0 where
   pub no : ℕ
   pub at : ℕ
   pub line : ℕ × Label
+
+-- one side of a changed number of a slip: whether it is the new one, the number, and all stored lines of its record
+abbrev pub SlipSide : Type 0
+SlipSide = Bool × (ℕ × List (ℕ × Label))
+
+-- such a side, at its place among those of its slip: a row of the second schema
+pub record SlipPackRow : Type 0 where
+  pub slip : ℕ
+  pub place : ℕ
+  pub side : SlipSide
 
 -- the days that the date of a record may mean: the first and the last one, from 1970-01-01, day 0
 pub record SpanRow : Type 0 where
@@ -99,8 +110,8 @@ pub record SoughtRow : Type 0 where
   pub target : Option ℕ
 
 -- the version that `meta` shows, whether the schema is the second one, which has packs, spans, links and what is looked
--- for, and no lines in rows of their own, the next number, the society, and the rows of each table in the order of
--- their keys
+-- for, and no lines in rows of their own, neither of records nor of slips, the next number, the society, and the rows
+-- of each table in the order of their keys
 pub record Rows : Type 0 where
   pub version : ℕ
   pub has_spans : Bool
@@ -113,6 +124,7 @@ pub record Rows : Type 0 where
   pub receipts : List ReceiptRow
   pub slips : List SlipRow
   pub slip_lines : List SlipLineRow
+  pub slip_packs : List SlipPackRow
   pub spans : List SpanRow
   pub links : List LinkRow
   pub soughts : List SoughtRow
@@ -177,6 +189,11 @@ abbrev pub slip_line_values : SlipLineRow → Row
 slip_line_values s = Int (pos s.id) ∷ Null ∷ Int (pos s.slip) ∷ Int (pos (flag s.is_new)) ∷ Int (pos s.no) ∷ Int
     (pos s.at) ∷ line_fields s.line
 
+-- the first line of a side stands at place 0 and depth 0, too
+abbrev pub side_fields : SlipSide → Row
+side_fields s = Int (pos (flag s.0)) ∷ Int (pos s.1.0) ∷ Int (pos 0) ∷ Int (pos 0) ∷ Words (first_tag s.1.1)
+    ∷ Words (packed s.1.1) ∷ number_or_null (first_target s.1.1) ∷ []
+
 abbrev pub span_values : SpanRow → Row
 span_values s = Int (pos s.no) ∷ Null ∷ day_or_null s.lo ∷ day_or_null s.hi ∷ []
 
@@ -193,6 +210,13 @@ integer_at place = pos place -ℤ pos (2 ^ 63)
 
 abbrev pub link_values : LinkRow → Row
 link_values l = Int (integer_at (link_place l)) ∷ Null ∷ []
+
+-- the place of a side among those of all slips
+abbrev pub slip_place : SlipPackRow → ℕ
+slip_place s = pair_place s.slip s.place
+
+abbrev pub slip_pack_values : SlipPackRow → Row
+slip_pack_values s = Int (integer_at (slip_place s)) ∷ Null ∷ Int (pos s.slip) ∷ side_fields s.side
 
 abbrev pub sought_values : SoughtRow → Row
 sought_values s = Int (pos s.no) ∷ Null ∷ Words s.text ∷ number_or_null s.target ∷ []
@@ -218,13 +242,18 @@ HoldsOwn false lines packs spans links soughts t =
     × (soughts ≡ [])
 HoldsOwn true lines packs spans links soughts t = (lines ≡ []) × KeepsLater packs spans links soughts t
 
+-- the same of the sides of slips: the first schema has lines of them in rows of their own
+abbrev pub HoldsSides : Bool → List SlipLineRow → List SlipPackRow → Trees → Type 0
+HoldsSides false lines packs t = Keeps slip_line_values (λ (s : SlipLineRow). s.id) lines (t 6) × (packs ≡ [])
+HoldsSides true lines packs t = (lines ≡ []) × Keeps slip_pack_values slip_place packs (t 10)
+
 pub record Holds (rows : Rows) (t : Trees) : Type 0 where
   pub meta : t 0 ≡ meta_values rows ∷ []
   pub batches : Keeps batch_values (λ (b : BatchRow). b.no) rows.batches (t 1)
   pub records : Keeps record_values (λ (r : RecordRow). r.no) rows.records (t 2)
   pub receipts : Keeps receipt_values (λ (r : ReceiptRow). r.id) rows.receipts (t 4)
   pub slips : Keeps slip_values (λ (s : SlipRow). s.no) rows.slips (t 5)
-  pub slip_lines : Keeps slip_line_values (λ (s : SlipLineRow). s.id) rows.slip_lines (t 6)
+  pub sides : HoldsSides rows.has_spans rows.slip_lines rows.slip_packs t
   pub own : HoldsOwn rows.has_spans rows.lines rows.packs rows.spans rows.links rows.soughts t
 
 -- ---- what one call makes of the rows
@@ -324,31 +353,9 @@ undone_at n s = cond (s.no == n) (record s { is_undone = true }) s
 abbrev pub with_undone : ℕ → Rows → Rows
 with_undone n rows = record rows { slips = map (undone_at n) rows.slips }
 
-abbrev pub with_slip_line : ℕ → Bool → ℕ → ℕ → ℕ × Label → Rows → Rows
-with_slip_line slip is_new n at line rows = record rows {
-  slip_lines = rows.slip_lines
-      ++ record {
-        id = next_key (λ (s : SlipLineRow). s.id) rows.slip_lines;
-        slip = slip;
-        is_new = is_new;
-        no = n;
-        at = at;
-        line = line;
-      } ∷ [];
-}
-
-abbrev pub without_slip_lines : ℕ → Rows → Rows
-without_slip_lines n rows = record rows { slip_lines = filter (λ (s : SlipLineRow). not (s.slip == n)) rows.slip_lines }
-
 -- the lines of a record, in place of those that it had
 abbrev pub with_changed_lines : ℕ → List (ℕ × Label) → Rows → Rows
 with_changed_lines n ls rows = with_pack n ls (without_lines n rows)
-
--- lines of one side of a number in a slip, from a place on
-abbrev pub with_slip_lines : ℕ → Bool → ℕ → ℕ → List (ℕ × Label) → Rows → Rows
-with_slip_lines slip is_new n at [] rows = rows
-with_slip_lines slip is_new n at (l ∷ ls) rows = with_slip_lines slip is_new n (at + 1) ls
-    (with_slip_line slip is_new n at l rows)
 
 -- a span in the order of the numbers, in place of one of its number
 abbrev pub with_span : ℕ → Option ℤ → Option ℤ → Rows → Rows
@@ -387,10 +394,10 @@ with_sought n text target rows =
 abbrev pub without_sought : ℕ → Rows → Rows
 without_sought n rows = record rows { soughts = filter (λ (s : SoughtRow). not (s.no == n)) rows.soughts }
 
--- ---- the second schema, made of the first one: its tables have no rows yet, and the lines are gone; then `meta` shows
--- its version
+-- ---- the second schema, made of the first one: its tables have no rows yet, and the lines are gone, those of slips
+-- too; then `meta` shows its version
 abbrev pub with_later_tables : Rows → Rows
-with_later_tables rows = record rows { has_spans = true; lines = [] }
+with_later_tables rows = record rows { has_spans = true; lines = []; slip_lines = [] }
 
 abbrev pub with_version : ℕ → Rows → Rows
 with_version version rows = record rows { version = version }
@@ -409,6 +416,7 @@ bare society = record {
   receipts = [];
   slips = [];
   slip_lines = [];
+  slip_packs = [];
   spans = [];
   links = [];
   soughts = [];
@@ -430,5 +438,10 @@ lines_of n rows = map (λ (l : LineRow). l.line) (filter (λ (l : LineRow). l.no
 abbrev pub slip_line_of : SlipLineRow → Bool × (ℕ × (ℕ × Label))
 slip_line_of s = (s.is_new, (s.no, s.line))
 
+-- the lines of a side
+abbrev pub lines_in_side : SlipSide → List (Bool × (ℕ × (ℕ × Label)))
+lines_in_side s = map (λ l. (s.0, (s.1.0, l))) s.1.1
+
 abbrev pub slip_lines_of : ℕ → Rows → List (Bool × (ℕ × (ℕ × Label)))
 slip_lines_of n rows = map slip_line_of (filter (λ (s : SlipLineRow). s.slip == n) rows.slip_lines)
+    ++ flat_map (λ (s : SlipPackRow). lines_in_side s.side) (filter (λ (s : SlipPackRow). s.slip == n) rows.slip_packs)

@@ -100,9 +100,18 @@ abbrev pub slips : Table
 slips = a_table (codes "slip") 5 (codes "no")
     (number (codes "keep") ∷ number (codes "gone") ∷ number (codes "undone") ∷ []) []
 
+-- a table of the lines of slips
+abbrev pub sides_in : ℕ → Table
+sides_in tree = a_table (codes "slip_line") tree (codes "id")
+    (number (codes "slip") ∷ number (codes "side") ∷ line_columns) (to_number_of (codes "slip") 2 ∷ [])
+
+-- each line in a row of its own: of the first schema
 abbrev pub slip_lines : Table
-slip_lines = a_table (codes "slip_line") 6 (codes "id") (number (codes "slip") ∷ number (codes "side") ∷ line_columns)
-    (to_number_of (codes "slip") 2 ∷ [])
+slip_lines = sides_in 6
+
+-- all lines of one side of a number in one row: of the second schema
+abbrev pub slip_packs : Table
+slip_packs = sides_in 10
 
 abbrev pub line_by_record : Index
 line_by_record = an_index (codes "line_by_record") 7 3 2
@@ -161,14 +170,14 @@ sought_by_text = record {
 -- the tables behind the first three, in the order in which they were made
 abbrev pub more_tables : Bool → List Table
 more_tables false = lines ∷ receipts ∷ slips ∷ slip_lines ∷ []
-more_tables true = receipts ∷ slips ∷ slip_lines ∷ packs ∷ spans ∷ links ∷ soughts ∷ pasts ∷ []
+more_tables true = receipts ∷ slips ∷ slip_packs ∷ packs ∷ spans ∷ links ∷ soughts ∷ pasts ∷ []
 
 abbrev pub all_tables : Bool → List Table
 all_tables has_spans = meta ∷ batches ∷ records ∷ more_tables has_spans
 
 abbrev pub all_indexes : Bool → List Index
 all_indexes false = line_by_record ∷ line_by_target ∷ receipt_by_token ∷ slip_line_by_slip ∷ line_by_text ∷ []
-all_indexes true = receipt_by_token ∷ slip_line_by_slip ∷ sought_by_text ∷ []
+all_indexes true = receipt_by_token ∷ sought_by_text ∷ []
 
 -- the schema of an archive: the second one where it has spans, else the first one
 abbrev pub archive_schema : Bool → Schema
@@ -176,12 +185,20 @@ archive_schema has_spans = record { tables = all_tables has_spans; indexes = all
 
 -- the tables that both schemas have
 abbrev pub both_tables : List Table
-both_tables = meta ∷ batches ∷ records ∷ receipts ∷ slips ∷ slip_lines ∷ []
+both_tables = meta ∷ batches ∷ records ∷ receipts ∷ slips ∷ []
 
 -- these tables, with their indexes, and more
 abbrev pub both_and : List Table → Schema
 both_and more = record {
-  tables = meta ∷ batches ∷ records ∷ receipts ∷ slips ∷ slip_lines ∷ more;
+  tables = meta ∷ batches ∷ records ∷ receipts ∷ slips ∷ more;
+  indexes = receipt_by_token ∷ [];
+  views = [];
+}
+
+-- the first schema without the lines of records
+abbrev pub without_record_lines : Schema
+without_record_lines = record {
+  tables = meta ∷ batches ∷ records ∷ receipts ∷ slips ∷ slip_lines ∷ [];
   indexes = receipt_by_token ∷ slip_line_by_slip ∷ [];
   views = [];
 }

@@ -1,5 +1,5 @@
 -- What the tables of the schema show to the queries that read them, whoever wrote the rows.
-use Rattle.std.specs.Prelude.{◌≡◌, ℕ, ℤ, pos, not, Bool, true, false, List, [], ◌∷◌}
+use Rattle.std.specs.Prelude.{◌≡◌, ℕ, ℤ, pos, not, Bool, true, false, List, [], ◌∷◌, flat_map}
 use Rattle.std.specs.Ordering.{int_eq}
 use Rattle.sqlite.specs.declared.types.Value.TheVariants.{Int, Text as Words, Blob}
 use Rattle.sqlite.specs.Order.{Row, column}
@@ -21,12 +21,13 @@ use Rattle.store_tables.specs.Prepared.{
   sought_query,
   span_query,
 }
-use Rattle.store_tables.specs.Reading.{ReadRows, read_of}
+use Rattle.store_tables.specs.Reading.{ReadRows, lines_in_pack, read_of}
 use Rattle.store_tables.specs.Rows.{
   BatchRow,
   LinkRow,
   Rows,
   SlipRow,
+  SlipSide,
   SoughtRow,
   SpanRow,
   day_or_null,
@@ -77,6 +78,12 @@ ShowsSlip row s = IsNumberAt row 0 s.no × IsNumberAt row 1 s.keep × IsNumberAt
 abbrev pub ShowsSlipLine : Row → ℕ × (Bool × (ℕ × (ℕ × Label))) → Type 0
 ShowsSlipLine row s = IsNumberAt row 0 s.0 × IsFlagAt row 1 s.1.0 × IsNumberAt row 2 s.1.1.0 × IsLineAt row 3 s.1.1.1
 
+-- a side with all its lines, of which the row shows what `ShowsPack` does
+abbrev pub ShowsSlipPack : Row → ℕ × SlipSide → Type 0
+ShowsSlipPack row s = IsNumberAt row 0 s.0 × IsFlagAt row 1 s.1.0 × IsNumberAt row 2 s.1.1.0
+    × (column row 4 ≡ Words (first_tag s.1.1.1)) × (column row 5 ≡ Words (packed s.1.1.1))
+    × (column row 6 ≡ number_or_null (first_target s.1.1.1))
+
 -- a number, and the days that may be missing
 abbrev pub ShowsSpan : Row → SpanRow → Type 0
 ShowsSpan row s = IsNumberAt row 0 s.no × (column row 1 ≡ day_or_null s.lo) × (column row 2 ≡ day_or_null s.hi)
@@ -103,18 +110,24 @@ abbrev pub ShowsLines : Bool → List (ℕ × (ℕ × Label)) → List (ℕ × L
 ShowsLines false lines packs old new = ShowsEach line_query ShowsLine old new lines × (packs ≡ [])
 ShowsLines true lines packs old new = ShowsEach pack_query ShowsPack old new packs × (lines ≡ [])
 
-pub record ShowsHistory (receipts : List (List ℕ × Receipt)) (slips : List SlipRow)
+-- the lines of slips are in rows of their own in the first schema, and in the second one a side has one row
+abbrev pub ShowsSides : Bool → List (ℕ × (Bool × (ℕ × (ℕ × Label)))) → State → State → Type 0
+ShowsSides false lines old new = ShowsEach slip_line_query ShowsSlipLine old new lines
+ShowsSides true lines old new = (packs : List (ℕ × SlipSide)) × ShowsEach slip_line_query ShowsSlipPack old new packs
+    × (lines ≡ flat_map lines_in_pack packs)
+
+pub record ShowsHistory (has_spans : Bool) (receipts : List (List ℕ × Receipt)) (slips : List SlipRow)
     (slip_lines : List (ℕ × (Bool × (ℕ × (ℕ × Label))))) (old new : State) : Type 0 where
   pub receipts_shown : ShowsEach receipt_query ShowsReceipt old new receipts
   pub slips_shown : ShowsEach slip_query ShowsSlip old new slips
-  pub slip_lines_shown : ShowsEach slip_line_query ShowsSlipLine old new slip_lines
+  pub slip_lines_shown : ShowsSides has_spans slip_lines old new
 
 -- each query of a schema shows what is read
 pub record ShowsRead (has_spans : Bool) (read : ReadRows) (old new : State) : Type 0 where
   pub meta : (society : List ℕ) × ShowsEach meta_query ShowsMeta old new ((read.next, society) ∷ [])
   pub records : ShowsRecords read.batches read.records old new
   pub lines : ShowsLines has_spans read.lines read.packs old new
-  pub history : ShowsHistory read.receipts read.slips read.slip_lines old new
+  pub history : ShowsHistory has_spans read.receipts read.slips read.slip_lines old new
 
 -- whoever reads the tables is shown these rows, and leaves the tables as they are
 abbrev pub ShowsRows : Rows → State → Type 0

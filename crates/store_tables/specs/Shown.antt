@@ -12,6 +12,8 @@ use Rattle.store_tables.specs.Rows.{
   ReceiptRow,
   SlipRow,
   SlipLineRow,
+  SlipPackRow,
+  SlipSide,
   SpanRow,
   LinkRow,
   SoughtRow,
@@ -50,6 +52,14 @@ shown_slip s = Int (pos s.no) ∷ Int (pos s.keep) ∷ Int (pos s.gone) ∷ Int 
 
 abbrev pub shown_slip_line : SlipLineRow → Row
 shown_slip_line s = Int (pos s.slip) ∷ Int (pos (flag s.is_new)) ∷ Int (pos s.no) ∷ line_fields s.line
+
+-- a side of a slip at depth 0, where its first line stands
+abbrev pub shown_side : SlipSide → Row
+shown_side s = Int (pos (flag s.0)) ∷ Int (pos s.1.0) ∷ Int (pos 0) ∷ Words (first_tag s.1.1) ∷ Words (packed s.1.1)
+    ∷ number_or_null (first_target s.1.1) ∷ []
+
+abbrev pub shown_slip_pack : SlipPackRow → Row
+shown_slip_pack s = Int (pos s.slip) ∷ shown_side s.side
 
 abbrev pub shown_span : SpanRow → Row
 shown_span s = Int (pos s.no) ∷ day_or_null s.lo ∷ day_or_null s.hi ∷ []

@@ -27,6 +27,10 @@ use crate::{rows, spans};
 use record_text::Text;
 use sqlite::{Alter, Connection, Error, Transaction, params};
 
+/// Both schemas have a table of this text.
+const CREATE_SLIP_LINE: &str =
+    "CREATE TABLE slip_line (id INTEGER PRIMARY KEY, slip INTEGER NOT NULL REFERENCES slip (no) ON DELETE RESTRICT, side INTEGER NOT NULL, no INTEGER NOT NULL, pos INTEGER NOT NULL, depth INTEGER NOT NULL, tag TEXT NOT NULL, text TEXT, dst INTEGER) STRICT";
+
 /// A table, by the text of its CREATE.
 fn create_table<S: Alter>(tx: &mut Transaction<'_, S>, text: &str) -> Result<(), Error>
     ensures same_reference { tx.new.conn.ghost_name ≡ tx.old.conn.ghost_name }
@@ -90,10 +94,7 @@ fn create_receipts<S: Alter>(tx: &mut Transaction<'_, S>) -> Result<(), Error>
         tx,
         "CREATE TABLE slip (no INTEGER PRIMARY KEY, keep INTEGER NOT NULL, gone INTEGER NOT NULL, undone INTEGER NOT NULL) STRICT",
     )?;
-    create_table(
-        tx,
-        "CREATE TABLE slip_line (id INTEGER PRIMARY KEY, slip INTEGER NOT NULL REFERENCES slip (no) ON DELETE RESTRICT, side INTEGER NOT NULL, no INTEGER NOT NULL, pos INTEGER NOT NULL, depth INTEGER NOT NULL, tag TEXT NOT NULL, text TEXT, dst INTEGER) STRICT",
-    )
+    create_table(tx, CREATE_SLIP_LINE)
 }
 
 fn create_indexes<S: Alter>(tx: &mut Transaction<'_, S>) -> Result<(), Error>
@@ -142,7 +143,8 @@ fn fill<S: Alter>(tx: &mut Transaction<'_, S>, society: &Text) -> Result<(), Err
     spans::set_version(tx)
 }
 
-/// The tables that the second schema alone has, without rows, in an archive of the first schema, whose lines go.
+/// The tables that the second schema alone has, without rows, in an archive of the first schema, whose lines go, those
+/// of slips too.
 pub fn create_later_tables<S: Alter>(tx: &mut Transaction<'_, S>) -> Result<(), Error>
     ensures same_reference { tx.new.conn.ghost_name ≡ tx.old.conn.ghost_name }
     ensures ok { WritesUndated (state S.Store tx.old.conn.now) (state S.Store tx.new.conn.now)
@@ -150,6 +152,8 @@ pub fn create_later_tables<S: Alter>(tx: &mut Transaction<'_, S>) -> Result<(), 
     ensures survives { LeavesAsBefore (state S.Store tx.old.conn.now) (state S.Store tx.new.conn.now) }
 {
     tx.execute("DROP TABLE line", &[])?;
+    tx.execute("DROP TABLE slip_line", &[])?;
+    tx.execute(CREATE_SLIP_LINE, &[])?;
     tx.execute(
         "CREATE TABLE line (no INTEGER PRIMARY KEY REFERENCES record (no) ON DELETE RESTRICT, pos INTEGER NOT NULL, depth INTEGER NOT NULL, tag TEXT NOT NULL, text TEXT, dst INTEGER) STRICT",
         &[],

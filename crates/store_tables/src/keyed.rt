@@ -10,7 +10,6 @@ ghost use Rattle.store_tables.specs.Keyed.{
   records_at,
   receipts_at,
   slips_at,
-  slip_lines_at,
   lines_within,
   packs_at,
 };
@@ -19,7 +18,7 @@ ghost use Rattle.store_tables.specs.Rows.{lines_of};
 
 use crate::connection::is_second;
 use crate::reading::{read_all, read_meta};
-use crate::stored::{BatchRow, PackRow, ReceiptRow, RecordRow, SlipLineRow, SlipRow};
+use crate::stored::{BatchRow, PackRow, ReceiptRow, RecordRow, SlipRow};
 use receipts::Token;
 use record_text::RefusalKind;
 use sqlite::{Alter, Connection, params};
@@ -37,9 +36,6 @@ const RECEIPTS_AT: &str =
     "SELECT token, digest, first, count FROM receipt WHERE token = ?1 ORDER BY id";
 
 const SLIP_AT: &str = "SELECT no, keep, gone, undone FROM slip WHERE no = ?1 ORDER BY no";
-
-const SLIP_LINES_AT: &str =
-    "SELECT slip, side, no, depth, tag, text, dst FROM slip_line WHERE slip = ?1 ORDER BY id";
 
 /// The next number. Errors of this and of all calls below as of `read_rows`.
 pub fn next<S: Alter>(alloc: Global, conn: &mut Connection<S>) -> Result<u64, RefusalKind>
@@ -147,20 +143,6 @@ pub fn slip_at<S: Alter>(
     ensures ended { conn.new.in_transaction ≡ false }
 {
     at_most_one(slips_at(alloc, conn, number)?)
-}
-
-/// The lines of a slip, in order.
-pub fn slip_lines_at<S: Alter>(
-    alloc: Global,
-    conn: &mut Connection<S>,
-    slip: u32,
-) -> Result<Vec<SlipLineRow>, RefusalKind>
-    requires autocommit { conn.old.in_transaction ≡ false }
-    ensures looks { Looks (λ rows items. items.items ≡ slip_lines_at slip rows) (state S.Store conn.old)
-        (state S.Store conn.new) result }
-    ensures ended { conn.new.in_transaction ≡ false }
-{
-    read_all(alloc, conn, SLIP_LINES_AT, params![slip])
 }
 
 fn batches_at<S: Alter>(

@@ -12,6 +12,7 @@ mod pairs;
 mod reading;
 pub mod records;
 pub mod rows;
+pub mod sides;
 pub mod soughts;
 pub mod spans;
 mod stored;
@@ -19,9 +20,9 @@ mod typing;
 mod version;
 
 pub use creating::{create, create_later_tables};
-pub use reading::{read_batches, read_rows, society};
+pub use reading::{read_batches, read_records_by_batch, read_rows, society};
 pub use stored::{
-    BatchRow, LineRow, LinkRow, PackRow, ReceiptRow, RecordRow, SlipLineRow, SlipRow, SoughtRow,
-    SpanRow, StoredRows,
+    BatchRow, LineRow, LinkRow, PackRow, ReceiptRow, RecordRow, SlipLineRow, SlipRow, SlipSide,
+    SoughtRow, SpanRow, StoredRows,
 };
 pub use version::{Version, check_tables, check_version};

@@ -1,13 +1,13 @@
-//! The lines of a record in one row, and those of a side of a slip in one row after the other, inside a transaction.
+//! The lines of a record in one row, inside a transaction.
 
-ghost use Rattle.std.specs.Prelude.{◌≡◌, ◌+◌, IfOk, IfSome, option_copied};
+ghost use Rattle.std.specs.Prelude.{◌≡◌, IfSome, option_copied};
 ghost use Rattle.std.specs.List.{AllByRecursion};
 ghost use Rattle.sqlite.specs.Held.{state};
 ghost use Rattle.packed_lines.specs.Packed.{packed};
 ghost use Rattle.store_tables.specs.Calls.{LeavesAsBefore, Writes};
 ghost use Rattle.store_tables.specs.Conversion.{IsTop};
 ghost use Rattle.store_tables.specs.Reading.{IsTypedLine};
-ghost use Rattle.store_tables.specs.Rows.{with_changed_lines, with_pack, with_slip_lines};
+ghost use Rattle.store_tables.specs.Rows.{with_changed_lines, with_pack};
 
 use crate::rows;
 use crate::rows::named;
@@ -56,7 +56,7 @@ pub fn insert_lines<S: Alter>(
 }
 
 /// The first line, where there is one and it stands at depth 0.
-fn top_of(lines: &[StoredLine]) -> Option<&StoredLine>
+pub(crate) fn top_of(lines: &[StoredLine]) -> Option<&StoredLine>
     ensures { IfSome (option_copied result) (λ first. IsTop first lines.now) }
 {
     match lines {
@@ -88,36 +88,4 @@ fn insert_pack<S: Alter>(
         params![number, tag, text, target],
     )?;
     Ok(())
-}
-
-/// The lines of one side of a number in a slip, from place 0 on.
-/// `Err`: a statement failed, or there are more lines than a place can count.
-pub fn insert_slip_lines<S: Alter>(
-    tx: &mut Transaction<'_, S>,
-    slip: u32,
-    is_new: bool,
-    number: u32,
-    lines: &[StoredLine],
-) -> Result<(), Error>
-    ensures same_reference { tx.new.conn.ghost_name ≡ tx.old.conn.ghost_name }
-    ensures ok { Writes (state S.Store tx.old.conn.now) (state S.Store tx.new.conn.now)
-        result (with_slip_lines slip is_new number 0 lines.now) }
-    ensures survives { LeavesAsBefore (state S.Store tx.old.conn.now) (state S.Store tx.new.conn.now) }
-{
-    let mut at: u32 = 0;
-    'lines: for line in lines {
-        rows::insert_slip_line(tx, slip, is_new, number, at, line)?;
-        at = after(at)?;
-    }
-    Ok(())
-}
-
-/// The place after this one. `Err`: a `u32` counts no further.
-fn after(at: u32) -> Result<u32, Error>
-    ensures { IfOk result (λ next. next ≡ at + 1) }
-{
-    match at.checked_add(1) {
-        Some(next) => Ok(next),
-        None => Err(Error::IntegralValueOutOfRange(1)),
-    }
 }

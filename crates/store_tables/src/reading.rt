@@ -17,7 +17,7 @@ ghost use Rattle.store_tables.specs.Reading.{
   read_line,
   read_pack,
   read_receipt,
-  read_slip_line,
+  read_sides,
 };
 ghost use Rattle.store_tables.specs.Rows.{Rows};
 ghost use Rattle.store_tables.specs.Schema.{archive_schema};
@@ -29,7 +29,6 @@ ghost use Rattle.store_tables.specs.Prepared.{
   pack_query,
   receipt_query,
   slip_query,
-  slip_line_query,
 };
 ghost use Rattle.store_tables.specs.Showing.{
   ShowsBatch,
@@ -43,12 +42,13 @@ ghost use Rattle.store_tables.specs.Showing.{
   ShowsReceipt,
   ShowsRecord,
   ShowsRecords,
+  ShowsSides,
   ShowsSlip,
-  ShowsSlipLine,
 };
 ghost use Rattle.store_tables.specs.Telling.{tells_no_archive};
 
 use crate::connection::is_second;
+use crate::sides;
 use crate::stored::{
     BatchRow, LineRow, PackRow, ReceiptRow, RecordRow, SlipLineRow, SlipRow, StoredRows,
 };
@@ -76,6 +76,7 @@ pub(crate) const SELECT_RECEIPTS: &str =
 
 pub(crate) const SELECT_SLIPS: &str = "SELECT no, keep, gone, undone FROM slip ORDER BY no";
 
+// The lines of slips, in the order in which they were written; under the second schema those of a side in one row.
 pub(crate) const SELECT_SLIP_LINES: &str =
     "SELECT slip, side, no, depth, tag, text, dst FROM slip_line ORDER BY id";
 
@@ -135,8 +136,8 @@ pub(crate) fn read_meta<S: Alter>(
     only(read_meta_rows(alloc, conn)?)
 }
 
-/// The batches and the records.
-fn read_records_by_batch<S: Alter>(
+/// The batches, and the records with the batch of each, both in the order of their numbers. Errors as of `read_rows`.
+pub fn read_records_by_batch<S: Alter>(
     alloc: Global,
     conn: &mut Connection<S>,
 ) -> Result<(Vec<BatchRow>, Vec<RecordRow>), RefusalKind>
@@ -184,18 +185,38 @@ fn read_history<S: Alter>(
 ) -> Result<(Vec<ReceiptRow>, Vec<SlipRow>, Vec<SlipLineRow>), RefusalKind>
     requires autocommit { conn.old.in_transaction ≡ false }
     ensures looks { Looks (λ rows all. (all.0.items ≡ map read_receipt rows.receipts) × (all.1.items ≡ rows.slips)
-        × (all.2.items ≡ map read_slip_line rows.slip_lines))
+        × (all.2.items ≡ read_sides rows))
         (state S.Store conn.old) (state S.Store conn.new) result }
     ensures shown { HasCleanDisk (state S.Store conn.new) → (has_spans : Bool)
         → (state S.Store conn.old).now.schema ≡ archive_schema has_spans
-        → IfOk result (λ all. ShowsHistory all.0.items all.1.items all.2.items
+        → IfOk result (λ all. ShowsHistory has_spans all.0.items all.1.items all.2.items
         (state S.Store conn.old) (state S.Store conn.new)) }
     ensures ended { conn.new.in_transaction ≡ false }
 {
     let receipts = read_receipts(alloc, conn)?;
     let slips = read_slips(alloc, conn)?;
-    let slip_lines = read_slip_lines(alloc, conn)?;
+    let slip_lines = read_sides(alloc, conn)?;
     Ok((receipts, slips, slip_lines))
+}
+
+/// The lines of slips, as the schema has them: in rows of their own, or all lines of a side in one row.
+fn read_sides<S: Alter>(
+    alloc: Global,
+    conn: &mut Connection<S>,
+) -> Result<Vec<SlipLineRow>, RefusalKind>
+    requires autocommit { conn.old.in_transaction ≡ false }
+    ensures looks { Looks (λ rows items. items.items ≡ read_sides rows) (state S.Store conn.old)
+        (state S.Store conn.new) result }
+    ensures shown { HasCleanDisk (state S.Store conn.new) → (has_spans : Bool)
+        → (state S.Store conn.old).now.schema ≡ archive_schema has_spans
+        → IfOk result (λ items. ShowsSides has_spans items.items (state S.Store conn.old) (state S.Store conn.new)) }
+    ensures ended { conn.new.in_transaction ≡ false }
+{
+    if is_second(conn) {
+        sides::read_lines(alloc, conn)
+    } else {
+        read_slip_lines(alloc, conn)
+    }
 }
 
 fn read_meta_rows<S: Alter>(
@@ -316,17 +337,18 @@ fn read_slips<S: Alter>(
     read_all(alloc, conn, SELECT_SLIPS, &[])
 }
 
+/// The lines of slips, of tables that are not those of the second schema.
 fn read_slip_lines<S: Alter>(
     alloc: Global,
     conn: &mut Connection<S>,
 ) -> Result<Vec<SlipLineRow>, RefusalKind>
     requires autocommit { conn.old.in_transaction ≡ false }
-    ensures looks { Looks (λ rows items. items.items ≡ map read_slip_line rows.slip_lines) (state S.Store conn.old)
+    requires first { IsNoOther false (state S.Store conn.old) }
+    ensures looks { Looks (λ rows items. items.items ≡ read_sides rows) (state S.Store conn.old)
         (state S.Store conn.new) result }
     ensures shown { HasCleanDisk (state S.Store conn.new) → (has_spans : Bool)
         → (state S.Store conn.old).now.schema ≡ archive_schema has_spans
-        → IfOk result (λ items. ShowsEach slip_line_query ShowsSlipLine (state S.Store conn.old)
-        (state S.Store conn.new) items.items) }
+        → IfOk result (λ items. ShowsSides has_spans items.items (state S.Store conn.old) (state S.Store conn.new)) }
     ensures ended { conn.new.in_transaction ≡ false }
 {
     read_all(alloc, conn, SELECT_SLIP_LINES, &[])

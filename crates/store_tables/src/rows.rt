@@ -1,8 +1,7 @@
 //! Single rows, each written by a call of its own inside a transaction.
 
-ghost use Rattle.std.specs.Prelude.{◌≡◌, IfSome, option_copied};
+ghost use Rattle.std.specs.Prelude.{◌≡◌, IfSome};
 ghost use Rattle.sqlite.specs.Held.{state};
-ghost use Rattle.record_text.specs.Text.{IsText};
 ghost use Rattle.store_tables.specs.Calls.{LeavesAsBefore, Writes};
 ghost use Rattle.store_tables.specs.Reading.{IsU32};
 ghost use Rattle.store_tables.specs.Rows.{
@@ -14,14 +13,10 @@ ghost use Rattle.store_tables.specs.Rows.{
   without_lines,
   with_receipt,
   with_slip_row,
-  with_slip_line,
-  without_slip_lines,
 };
 
 use receipts::{Receipt, Token};
-use record_text::Text;
 use sqlite::{Alter, Error, Transaction, params};
-use stored_lines::StoredLine;
 
 /// A batch under its number.
 pub fn insert_batch<S: Alter>(
@@ -43,7 +38,7 @@ pub fn insert_batch<S: Alter>(
 }
 
 /// A flag as a number.
-fn flag(is_set: bool) -> u32
+pub(crate) fn flag(is_set: bool) -> u32
     ensures { result ≡ flag is_set }
 {
     if is_set { 1 } else { 0 }
@@ -91,17 +86,6 @@ pub fn delete_record<S: Alter>(tx: &mut Transaction<'_, S>, number: u32) -> Resu
 {
     tx.execute("DELETE FROM record WHERE no = ?1", params![number])?;
     Ok(())
-}
-
-/// The text of a line as words, where it has one.
-fn words(text: &Option<Text>) -> Option<&str>
-    ensures same { option_copied result ≡ text.now }
-    ensures text { IfSome text.now IsText }
-{
-    match text {
-        Some(text) => Some(text.as_str()),
-        None => None,
-    }
 }
 
 /// The number that a line names, where it names one.
@@ -163,44 +147,5 @@ pub fn insert_slip<S: Alter>(
         "INSERT INTO slip (no, keep, gone, undone) VALUES (?1, ?2, ?3, ?4)",
         params![number, keep, gone, undone],
     )?;
-    Ok(())
-}
-
-/// The stored line of one side of a number in a slip, at a place.
-pub(crate) fn insert_slip_line<S: Alter>(
-    tx: &mut Transaction<'_, S>,
-    slip: u32,
-    is_new: bool,
-    number: u32,
-    at: u32,
-    line: &StoredLine,
-) -> Result<(), Error>
-    ensures same_reference { tx.new.conn.ghost_name ≡ tx.old.conn.ghost_name }
-    ensures ok { Writes (state S.Store tx.old.conn.now) (state S.Store tx.new.conn.now)
-        result (with_slip_line slip is_new number at line.now) }
-    ensures survives { LeavesAsBefore (state S.Store tx.old.conn.now) (state S.Store tx.new.conn.now) }
-{
-    let side = flag(is_new);
-    let (depth, tag, text, target) = (
-        line.depth,
-        line.tag.as_str(),
-        words(&line.text),
-        named(line.target),
-    );
-    tx.execute(
-        "INSERT INTO slip_line (slip, side, no, pos, depth, tag, text, dst) VALUES (?1, ?2, ?3, ?4, ?5, ?6, ?7, ?8)",
-        params![slip, side, number, at, depth, tag, text, target],
-    )?;
-    Ok(())
-}
-
-/// Takes the lines of a slip out.
-pub fn delete_slip_lines<S: Alter>(tx: &mut Transaction<'_, S>, slip: u32) -> Result<(), Error>
-    ensures same_reference { tx.new.conn.ghost_name ≡ tx.old.conn.ghost_name }
-    ensures ok { Writes (state S.Store tx.old.conn.now) (state S.Store tx.new.conn.now)
-        result (without_slip_lines slip) }
-    ensures survives { LeavesAsBefore (state S.Store tx.old.conn.now) (state S.Store tx.new.conn.now) }
-{
-    tx.execute("DELETE FROM slip_line WHERE slip = ?1", params![slip])?;
     Ok(())
 }

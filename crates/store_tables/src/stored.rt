@@ -130,6 +130,46 @@ impl Model for SlipLineRow {
     ghost view = { λ a. (a.slip, (a.is_new, (a.number, a.line))) };
 }
 
+/// One side of a changed number of a slip: whether it is the new one, the number, and all stored lines of its record.
+#[derive(Drop)]
+pub struct SlipSide {
+    pub is_new: bool,
+    pub number: u32,
+    pub lines: Vec<StoredLine>,
+}
+
+impl Model for SlipSide {
+    ghost use Rattle.std.specs.Coded.{coded×, coded_ℕ, coded_bool, coded_list};
+    ghost use Rattle.stored_lines.specs.Line.{label_code};
+    ghost use Rattle.store_tables.specs.Rows as rows;
+
+    ghost Value = { rows.SlipSide };
+
+    ghost coded = { coded× coded_bool (coded× coded_ℕ (coded_list (coded× coded_ℕ label_code))) };
+
+    ghost view = { λ a. (a.is_new, (a.number, a.lines.items)) };
+}
+
+/// A side, with the number of its slip.
+#[derive(Drop)]
+pub(crate) struct SlipPackRow {
+    pub(crate) slip: u32,
+    pub(crate) side: SlipSide,
+}
+
+impl Model for SlipPackRow {
+    ghost use Rattle.std.specs.Prelude.{ℕ};
+    ghost use Rattle.std.specs.Coded.{coded×, coded_ℕ, coded_bool, coded_list};
+    ghost use Rattle.stored_lines.specs.Line.{label_code};
+    ghost use Rattle.store_tables.specs.Rows as rows;
+
+    ghost Value = { ℕ × rows.SlipSide };
+
+    ghost coded = { coded× coded_ℕ (coded× coded_bool (coded× coded_ℕ (coded_list (coded× coded_ℕ label_code)))) };
+
+    ghost view = { λ a. (a.slip, a.side) };
+}
+
 /// The days that the date of a record may mean: the first and the last one, from 1970-01-01, day 0.
 #[derive(Drop)]
 pub struct SpanRow {
@@ -178,7 +218,7 @@ impl Model for SoughtRow {
 }
 
 /// All rows of an archive but its spans, its links and what is looked for, in the order of their keys. Lines are in
-/// rows of their own in the first schema, and in `packs` in the second one.
+/// rows of their own in the first schema, and in `packs` in the second one; those of slips are told one by one of both.
 #[derive(Drop)]
 pub struct StoredRows {
     pub next: u64,

@@ -28,6 +28,7 @@ ghost use Rattle.store_tables.specs.Conversion.{
   FailsUnless,
   HasPack,
   IsPackReadAs,
+  IsSlipPackReadAs,
   read_meta,
   IsReadAs,
   ShowsTyped,
@@ -42,6 +43,7 @@ ghost use Rattle.store_tables.specs.Reading.{
   IsTypedPack,
   IsTypedReceipt,
   IsTypedSlip,
+  IsTypedSlipPack,
   IsTypedSought,
   IsTypedSpan,
   read_record,
@@ -61,6 +63,7 @@ ghost use Rattle.store_tables.specs.Showing.{
   ShowsRecord,
   ShowsSlip,
   ShowsSlipLine,
+  ShowsSlipPack,
   ShowsSought,
   ShowsSpan,
 };
@@ -76,14 +79,15 @@ ghost use Rattle.store_tables.specs.Shown.{
   shown_receipt,
   shown_slip,
   shown_slip_line,
+  shown_slip_pack,
   shown_sought,
   shown_span,
 };
 
 use crate::pairs::pair_of;
 use crate::stored::{
-    BatchRow, LineRow, LinkRow, PackRow, ReceiptRow, RecordRow, SlipLineRow, SlipRow, SoughtRow,
-    SpanRow,
+    BatchRow, LineRow, LinkRow, PackRow, ReceiptRow, RecordRow, SlipLineRow, SlipPackRow, SlipRow,
+    SlipSide, SoughtRow, SpanRow,
 };
 use packed_lines::unpack;
 use receipts::{Answer, Receipt, Token};
@@ -235,16 +239,17 @@ fn line_at(row: &Row, at: usize) -> Result<StoredLine, RefusalKind>
     })
 }
 
-/// The lines of a record that the last three columns show: the first one's tag, their text, and the number that the
-/// first one names.
-fn unpacked(alloc: Global, row: &Row) -> Result<Vec<StoredLine>, RefusalKind>
-    ensures ok { IfOk result (λ lines. HasPack row.now lines.items) }
-    ensures err { IfErr result (FailsUnless ((3 < length row.now) × (lines : List (ℕ × Label))
-        × HasPack row.now lines)) }
+/// The lines that three columns from a place on show: the first one's tag, their text, and the number that the first
+/// one names.
+fn unpacked(alloc: Global, row: &Row, at: usize) -> Result<Vec<StoredLine>, RefusalKind>
+    requires { at < 8 }
+    ensures ok { IfOk result (λ lines. HasPack row.now at lines.items) }
+    ensures err { IfErr result (FailsUnless ((at + 2 < length row.now) × (lines : List (ℕ × Label))
+        × HasPack row.now at lines)) }
 {
-    let tag = tag_at(row, 1)?;
-    let text: String = value(row, 2)?;
-    let target = value(row, 3)?;
+    let tag = tag_at(row, at)?;
+    let text: String = value(row, at + 1)?;
+    let target = value(row, at + 2)?;
     unpack(alloc, tag, target, &text)
 }
 
@@ -294,7 +299,7 @@ impl FromRow for PackRow {
 
     fn from_row(alloc: Global, row: &Row) -> Result<PackRow, RefusalKind> {
         let number = value(row, 0)?;
-        let lines = unpacked(alloc, row)?;
+        let lines = unpacked(alloc, row, 1)?;
         Ok(PackRow { number, lines })
     }
 }
@@ -354,6 +359,27 @@ impl FromRow for SlipLineRow {
             is_new: value(row, 1)?,
             number: value(row, 2)?,
             line: line_at(row, 3)?,
+        })
+    }
+}
+
+impl FromRow for SlipPackRow {
+    ghost reads_as = { IsSlipPackReadAs ShowsSlipPack };
+
+    ghost is_readable = { ShowsTyped shown_slip_pack IsTypedSlipPack };
+
+    fn from_row(alloc: Global, row: &Row) -> Result<SlipPackRow, RefusalKind> {
+        let slip = value(row, 0)?;
+        let is_new = value(row, 1)?;
+        let number = value(row, 2)?;
+        let lines = unpacked(alloc, row, 4)?;
+        Ok(SlipPackRow {
+            slip,
+            side: SlipSide {
+                is_new,
+                number,
+                lines,
+            },
         })
     }
 }

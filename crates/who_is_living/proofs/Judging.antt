@@ -1,5 +1,5 @@
 -- What is judged of who is living.
-use Rattle.std.proofs.Common.{◌≡◌, ◌↔◌, ℕ, ◌-◌, true, false, refl, sym, ap, ◌∙◌, subst}
+use Rattle.std.proofs.Common.{◌≡◌, ◌↔◌, ℕ, true, false, refl, sym, ap, ◌∙◌, subst}
 use Rattle.std.specs.Prelude.{Option, Some, None, ℤ}
 use Rattle.std.specs.Ordering.{nat_cmp}
 use Rattle.std.specs.BTreeSet as set
@@ -8,8 +8,7 @@ use Rattle.std.specs.FinMap.{get}
 use Rattle.record_kinds.specs.Model as model
 use Rattle.record_kinds.specs.declared.record.Record.{Record}
 use Rattle.record_kinds.specs.declared.record.Record.TheVariants as kind
-use Rattle.archive_state.specs.Content.{Content, Records}
-use Rattle.archive_state.specs.Sound.{IsSound}
+use Rattle.archive_state.specs.Content.{Records}
 use Rattle.masking.specs.Life.{IsLiving}
 use Rattle.masking.specs.Closing.{IsOpen, IsOfNobodyLiving}
 use Rattle.masking.specs.Masking.{is_silent}
@@ -18,27 +17,22 @@ use Rattle.who_is_living.specs.Evidence.{IsOfNone, IsOpenEntry, IsSilent}
 use Rattle.who_is_living.specs.Judged.{IsJudgement, KnowsLiving, KnowsSilent}
 use Rattle.who_is_living.specs.Sets.{IsIn, Has}
 use Rattle.who_is_living.specs.Telling.{IsTold}
-use Rattle.who_is_living.proofs.Life.{told_by}
 use Rattle.list_laws.proofs.Outcomes.{if_some}
 use Rattle.record_shapes.proofs.Each.{each_more}
 
-module _ (c : Content) (today : ℤ) (last : ℕ) (living silent entries : BTreeSet ℕ) (sound : IsSound c)
-    (is : last ≡ c.next - 1) (knows : KnowsLiving c.records today living)
-    (has_silent : Has silent (IsTold c.records last (IsSilent living)))
-    (has_open : Has entries (IsTold c.records last (IsOpenEntry today living))) where
-  abbrev m : Records
-  m = c.records
-
+module _ (m : Records) (today : ℤ) (living silent entries : BTreeSet ℕ) (knows : KnowsLiving m today living)
+    (has_silent : Has silent (IsTold m (IsSilent living)))
+    (has_open : Has entries (IsTold m (IsOpenEntry today living))) where
   abbrev Silent : ℕ → Type 0
   Silent n = is_silent (set.contains nat_cmp living) n (get m n) ≡ true
 
   silent_here : (n : ℕ) (o : Option Record) → get m n ≡ o
-      → is_silent (set.contains nat_cmp living) n o ≡ true → IsTold m last (IsSilent living) n
+      → is_silent (set.contains nat_cmp living) n o ≡ true → IsTold m (IsSilent living) n
   silent_here n None at e = let no : false ≡ true = e in absurd cc
-  silent_here n (Some r) at e = told_by c last (IsSilent living) n n r sound is at (refl, e)
+  silent_here n (Some r) at e = (n, r, at, (refl, e))
 
-  silent_told : (n : ℕ) → IsTold m last (IsSilent living) n → Silent n
-  silent_told n (k, from, upto, (r, at, (same, e))) =
+  silent_told : (n : ℕ) → IsTold m (IsSilent living) n → Silent n
+  silent_told n (k, r, at, (same, e)) =
       subst (λ x. Silent x) same (ap (is_silent (set.contains nat_cmp living) k) at ∙ e)
 
   silent_known : KnowsSilent m living silent
@@ -68,13 +62,17 @@ module _ (c : Content) (today : ℤ) (last : ℕ) (living silent entries : BTree
 
   opens : (n : ℕ) (e : model.Entry) → get m n ≡ Some (kind.Entry e) → IsIn entries n ↔ IsOpen m today e
   opens n e here = (
-    λ i. let (k, from, upto, (r, at, told)) = (has_open n).0 i in open_of k n r e at here told,
-    λ opened. (has_open n).1
-        (told_by c last (IsOpenEntry today living) n n (kind.Entry e) sound is here (
-          refl,
-          opened.ended,
-          each_more (IsOfNobodyLiving m today) (IsOfNone living) of_none e.mentions opened.nobody,
-        )),
+    λ i. let (k, r, at, told) = (has_open n).0 i in open_of k n r e at here told,
+    λ opened. (has_open n).1 (
+      n,
+      kind.Entry e,
+      here,
+      (
+        refl,
+        opened.ended,
+        each_more (IsOfNobodyLiving m today) (IsOfNone living) of_none e.mentions opened.nobody,
+      ),
+    ),
   )
 
   pub judged_is : IsJudgement m today living silent entries

@@ -1,12 +1,11 @@
 -- What all records tell is who is living.
-use Rattle.std.proofs.Common.{◌≡◌, ◌⊎◌, ℕ, ◌-◌, refl, subst, inl, inr, arith}
+use Rattle.std.proofs.Common.{◌≡◌, ◌⊎◌, ℕ, refl, subst, inl, inr}
 use Rattle.std.specs.Prelude.{Some, ℤ}
 use Rattle.std.specs.FinMap.{get}
 use Rattle.std.specs.BTreeSet.{BTreeSet}
 use Rattle.record_kinds.specs.declared.record.Record.{Record}
 use Rattle.record_kinds.specs.declared.record.Record.TheVariants as kind
-use Rattle.archive_state.specs.Content.{Content, Records}
-use Rattle.archive_state.specs.Sound.{IsSound}
+use Rattle.archive_state.specs.Content.{Records}
 use Rattle.masking.specs.Life.{
   IsBuried,
   IsDead,
@@ -19,14 +18,7 @@ use Rattle.masking.specs.Life.{
 use Rattle.who_is_living.specs.Evidence.{IsDeath, IsOldEvent, IsOldFamily, IsPersonBut}
 use Rattle.who_is_living.specs.Judged.{KnowsLiving}
 use Rattle.who_is_living.specs.Sets.{IsIn, Has}
-use Rattle.who_is_living.specs.Telling.{IsTold, Telling}
-
--- a record at a number from 1 to the last tells
-pub told_by : (c : Content) (last : ℕ) (T : Telling) (k n : ℕ) (r : Record) → IsSound c → last ≡ c.next - 1
-    → get c.records k ≡ Some r → T k r n → IsTold c.records last T n
-told_by c last T k n r sound is at told =
-    let in_range = sound.rules.numbered k r at in
-    (k, in_range.0, omega (arith, in_range.1, is), (r, at, told))
+use Rattle.who_is_living.specs.Telling.{IsTold}
 
 -- ---- what one record tells
 module _ (m : Records) (today : ℤ) where
@@ -45,25 +37,21 @@ module _ (m : Records) (today : ℤ) where
   family_of old owns k n _ at told = absurd told
 
 -- ---- what all of them tell
-module _ (c : Content) (today : ℤ) (last : ℕ) (dead old partners living : BTreeSet ℕ) (sound : IsSound c)
-    (is : last ≡ c.next - 1) (has_dead : Has dead (IsTold c.records last IsDeath))
-    (has_old : Has old (IsTold c.records last (IsOldEvent (long_before today))))
-    (has_partners : Has partners (IsTold c.records last (IsOldFamily old)))
-    (has_living : Has living (IsTold c.records last (IsPersonBut dead old partners))) where
-  abbrev m : Records
-  m = c.records
-
+module _ (m : Records) (today : ℤ) (dead old partners living : BTreeSet ℕ) (has_dead : Has dead (IsTold m IsDeath))
+    (has_old : Has old (IsTold m (IsOldEvent (long_before today))))
+    (has_partners : Has partners (IsTold m (IsOldFamily old)))
+    (has_living : Has living (IsTold m (IsPersonBut dead old partners))) where
   old_is : (n : ℕ) → IsIn old n → OwnsOldEvent m today n
-  old_is n i = let (k, from, upto, (r, at, told)) = (has_old n).0 i in old_of m today k n r at told
+  old_is n i = let (k, r, at, told) = (has_old n).0 i in old_of m today k n r at told
 
   is_old : (n : ℕ) → OwnsOldEvent m today n → IsIn old n
   is_old n (e, (k, at, owner), ended) = (has_old n).1
-      (told_by c last (IsOldEvent (long_before today)) k n (kind.Event e) sound is at (ended, owner))
+      (k, kind.Event e, at, (ended, owner))
 
   -- who is in one of the sets is dead
   dead_if : (n : ℕ) → IsIn dead n → IsDead m today n
   dead_if n i =
-      let (k, from, upto, (r, at, told)) = (has_dead n).0 i in
+      let (k, r, at, told) = (has_dead n).0 i in
       elim (death_of m today k n r at told) as (λ _. IsDead m today n) [
         | inl owns ↦ inl owns
         | inr buried ↦ inr (inl buried)
@@ -71,18 +59,18 @@ module _ (c : Content) (today : ℤ) (last : ℕ) (dead old partners living : BT
 
   partner_if : (n : ℕ) → IsIn partners n → IsDead m today n
   partner_if n i =
-      let (k, from, upto, (r, at, told)) = (has_partners n).0 i in
+      let (k, r, at, told) = (has_partners n).0 i in
       inr (inr (inr (family_of m today old old_is k n r at told)))
 
   -- who is dead is in one of the sets
   in_one : (n : ℕ) → IsDead m today n → IsIn dead n ⊎ (IsIn old n ⊎ IsIn partners n)
   in_one n (inl (e, (k, at, owner), ends)) = inl ((has_dead n).1
-      (told_by c last IsDeath k n (kind.Event e) sound is at (ends, owner)))
+      (k, kind.Event e, at, (ends, owner)))
   in_one n (inr (inl (k, e, at, buried))) = inl ((has_dead n).1
-      (told_by c last IsDeath k n (kind.Entry e) sound is at buried))
+      (k, kind.Entry e, at, buried))
   in_one n (inr (inr (inl owns))) = inr (inl (is_old n owns))
   in_one n (inr (inr (inr (f, x, at, partner, owns)))) = inr (inr ((has_partners n).1
-      (told_by c last (IsOldFamily old) f n (kind.Family x) sound is at (is_old f owns, partner))))
+      (f, kind.Family x, at, (is_old f owns, partner))))
 
   living_of : (k n : ℕ) (r : Record) → get m k ≡ Some r → IsPersonBut dead old partners k r n → IsLiving m today n
   living_of k n (kind.Person p) at (same, no_death, not_old, no_partner) =
@@ -98,12 +86,16 @@ module _ (c : Content) (today : ℤ) (last : ℕ) (dead old partners living : BT
 
   pub living_known : KnowsLiving m today living
   living_known n = (
-    λ i. let (k, from, upto, (r, at, told)) = (has_living n).0 i in living_of k n r at told,
-    λ ((p, at), not_dead). (has_living n).1
-        (told_by c last (IsPersonBut dead old partners) n n (kind.Person p) sound is at (
-          refl,
-          λ i. not_dead (dead_if n i),
-          λ i. not_dead (inr (inr (inl (old_is n i)))),
-          λ i. not_dead (partner_if n i),
-        )),
+    λ i. let (k, r, at, told) = (has_living n).0 i in living_of k n r at told,
+    λ ((p, at), not_dead). (has_living n).1 (
+      n,
+      kind.Person p,
+      at,
+      (
+        refl,
+        λ i. not_dead (dead_if n i),
+        λ i. not_dead (inr (inr (inl (old_is n i)))),
+        λ i. not_dead (partner_if n i),
+      ),
+    ),
   )

@@ -1,5 +1,5 @@
 -- What the records of an archive tell of numbers.
-use Rattle.std.specs.Prelude.{ℕ, ◌≡◌, ◌<◌, ◌≤◌, Some}
+use Rattle.std.specs.Prelude.{ℕ, ◌≡◌, Some}
 use Rattle.std.specs.FinMap.{get}
 use Rattle.record_kinds.specs.declared.record.Record.{Record}
 use Rattle.archive_state.specs.Content.{Records}
@@ -8,6 +8,6 @@ use Rattle.archive_state.specs.Content.{Records}
 abbrev pub Telling : Type 1
 Telling = ℕ → Record → ℕ → Type 0
 
--- some record at a number from 1 to the last tells it of n
-abbrev pub IsTold : Records → ℕ → Telling → ℕ → Type 0
-IsTold m last T n = (k : ℕ) × (0 < k) × (k ≤ last) × ((r : Record) × (get m k ≡ Some r) × T k r n)
+-- some record tells it of n
+abbrev pub IsTold : Records → Telling → ℕ → Type 0
+IsTold m T n = (k : ℕ) × (r : Record) × (get m k ≡ Some r) × T k r n

@@ -1,7 +1,6 @@
 //! What is judged of an archive before it is masked.
 
-ghost use Rattle.std.specs.Prelude.{◌≡◌, ◌-◌, ◌≤◌, IfOk};
-ghost use Rattle.archive_state.specs.Sound.{IsSound};
+ghost use Rattle.std.specs.Prelude.{◌≡◌, IfOk};
 ghost use Rattle.masking.specs.Life.{long_before};
 ghost use Rattle.who_is_living.specs.Judged.{IsJudgement, KnowsLiving};
 
@@ -14,9 +13,6 @@ use std::collections::BTreeSet;
 
 /// A person is taken for dead where one of their events ended that many days ago: 110 years.
 const LONGEST_LIFE: i64 = 40_178;
-
-/// How many numbers there are from 0 on.
-const NUMBERS: u64 = 4_294_967_296;
 
 /// Who is living in an archive, and which of its entries are open.
 pub struct Judgement {
@@ -39,20 +35,19 @@ impl Drop for Judgement {
     }
 }
 
-/// Who is living in an archive on a day, counted from 1970-01-01, day 0, and which of its entries are open. Each number
-/// below the next one is looked at six times, also one that has no record.
+/// Who is living in an archive on a day, counted from 1970-01-01, day 0, and which of its entries are open. Each record
+/// is looked at six times.
 pub fn judged(alloc: Global, state: &State, today: i32) -> Result<Judgement, AllocError>
-    ensures { IsSound state.now → IfOk result
+    ensures { IfOk result
         (λ j. IsJudgement state.now.records today j.living j.silent j.open_entries) }
 {
-    let last = last_number(state.next());
-    let living = living_persons(alloc, state, last, today)?;
-    let silent = told_by_all(alloc, state, last, &Silent { living: &living })?;
+    let living = living_persons(alloc, state, today)?;
+    let silent = told_by_all(alloc, state, &Silent { living: &living })?;
     let entries = OpenEntries {
         today,
         living: &living,
     };
-    let open_entries = told_by_all(alloc, state, last, &entries)?;
+    let open_entries = told_by_all(alloc, state, &entries)?;
     Ok(Judgement {
         living,
         silent,
@@ -60,26 +55,24 @@ pub fn judged(alloc: Global, state: &State, today: i32) -> Result<Judgement, All
     })
 }
 
-/// The living persons among the numbers up to the last.
+/// The living persons.
 pub(crate) fn living_persons(
     alloc: Global,
     state: &State,
-    last: u32,
     today: i32,
 ) -> Result<BTreeSet<u32>, AllocError>
-    ensures { IsSound state.now → last ≡ state.now.next - 1
-        → IfOk result (λ living. KnowsLiving state.now.records today living) }
+    ensures { IfOk result (λ living. KnowsLiving state.now.records today living) }
 {
-    let dead = told_by_all(alloc, state, last, &Deaths)?;
+    let dead = told_by_all(alloc, state, &Deaths)?;
     let day = long_before(today);
-    let old = told_by_all(alloc, state, last, &OldEvents { day })?;
-    let partners = told_by_all(alloc, state, last, &OldFamilies { old: &old })?;
+    let old = told_by_all(alloc, state, &OldEvents { day })?;
+    let partners = told_by_all(alloc, state, &OldFamilies { old: &old })?;
     let persons = PersonsBut {
         dead: &dead,
         old: &old,
         partners: &partners,
     };
-    let living = told_by_all(alloc, state, last, &persons)?;
+    let living = told_by_all(alloc, state, &persons)?;
     Ok(living)
 }
 
@@ -88,16 +81,4 @@ fn long_before(today: i32) -> i64
     ensures { result ≡ long_before today }
 {
     i64::from(today) - LONGEST_LIFE
-}
-
-/// The number before the next one.
-pub fn last_number(next: u64) -> u32
-    ensures { next ≤ 4294967296 → result ≡ next - 1 }
-{
-    let last = next.saturating_sub(1);
-    if last < NUMBERS {
-        last as u32
-    } else {
-        u32::MAX
-    }
 }

@@ -16,4 +16,4 @@ mod sets;
 mod telling;
 
 pub use asking::living;
-pub use judgement::{Judgement, judged, last_number};
+pub use judgement::{Judgement, judged};

@@ -26,18 +26,18 @@ pub(crate) trait Tells {
         ensures { OnOk result (Gets numbers.old numbers.new (tells self.now number found.now)) };
 }
 
-/// The numbers of which the records of the numbers from 1 to the last tell it. Each is looked at once.
+/// The numbers of which the records tell it. Each record is looked at once.
 pub(crate) fn told_by_all<T: Tells>(
     alloc: Global,
     state: &State,
-    last: u32,
     teller: &T,
 ) -> Result<BTreeSet<u32>, AllocError>
-    ensures { IfOk result (λ told. Has told (IsTold state.now.records last (T.tells teller.now))) }
+    ensures { IfOk result (λ told. Has told (IsTold state.now.records (T.tells teller.now))) }
 {
+    let numbers = state.record_numbers(alloc)?;
     let mut told = BTreeSet::new(alloc);
-    'numbers: for before in 0..last {
-        add_at(alloc, state, before + 1, teller, &mut told)?;
+    'numbers: for number in &numbers {
+        add_at(alloc, state, *number, teller, &mut told)?;
     }
     Ok(told)
 }

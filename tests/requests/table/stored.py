@@ -3,7 +3,7 @@
 from __future__ import annotations
 
 from beside import LATER, Line, links_of
-from packed import COLUMNS, literal, values_of
+from packed import COLUMNS, literal, row_of, values_of
 from table import again, entries, merging, order, worked
 from table.making import (
     FAMILY,
@@ -95,7 +95,8 @@ def spoils(statements: str, *told: str | int):
 
 def put(number: int, *lines: Line) -> str:
     """Statements that give a record these lines and no others, and its links."""
-    row = f"; DELETE FROM line WHERE no = {number}; INSERT INTO line ({COLUMNS}) VALUES {values_of(number, lines)}"
+    values = values_of(row_of(number, lines))
+    row = f"; DELETE FROM line WHERE no = {number}; INSERT INTO line ({COLUMNS}) VALUES {values}"
     return row + "".join(f"; INSERT OR IGNORE INTO link VALUES ({key})" for key in links_of(number, lines))
 
 

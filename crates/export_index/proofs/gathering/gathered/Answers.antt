@@ -1,17 +1,21 @@
+use Rattle.std.proofs.Common.{ap, ◌∙◌}
+use Rattle.std.specs.FinMap.{get}
+use Rattle.export_index.specs.Adding.{gathered_of}
 use Rattle.export_index.proofs.Whole.{index_is}
 use Rattle.export_index.proofs.gathering.gathered.Goals as goal
 
 pub returns-clause-shows : goal.returns-clause-shows
 returns-clause-shows g c honest =
     let read = c.in_ok-index.ensures.shows honest in
-    let next = c.in_ok-next.ensures.shows read.0 in (
-      next.0,
+    let numbers = c.in_ok-numbers.ensures.shows read.0 in (
+      numbers.0,
       λ held shown.
-          let told = next.1 held shown in
+          let told = numbers.1 held shown in
           let gathered = read.1 held told.0 in (
             gathered.0,
-            λ sound. index_is (g.V.View.content held) c.in_ok-index.index c.arrange.new.self c.last_number.result
-                c.in_ok-next.next sound told.1 c.last_number.ensures gathered.1 c.in_ok-arrange.ensures,
+            index_is (g.V.View.content held).records c.in_ok-index.index c.arrange.new.self
+                (gathered.1 ∙ ap (gathered_of (get (g.V.View.content held).records)) (c.deref.ensures.value ∙ told.1))
+                c.in_ok-arrange.ensures,
           ),
     )
 

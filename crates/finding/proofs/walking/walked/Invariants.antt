@@ -1,4 +1,4 @@
-use Rattle.std.proofs.Common.{◌≡◌, ◌≤◌}
+use Rattle.std.proofs.Common.{◌≡◌, ◌≤◌, take}
 use Rattle.std.specs.FinMap as map
 use Rattle.archive_view.specs.Looks.{OnView}
 use Rattle.finding.specs.Walking as walking
@@ -7,6 +7,7 @@ use Rattle.finding.proofs.walking.walked.Given as goal
 abbrev pub invariant-numbers : goal.invariant-numbers
 invariant-numbers g l = record {
   shown : OnView g.V.View.is_honest g.V.View.shows g.V.View.content l.fn.view l.view
-      (λ c. l.lines.items ≡ walking.walked (map.get c.records) l.wanted l.limit l.after l.before);
+      (λ c. l.lines.items
+      ≡ walking.walked (map.get c.records) l.wanted l.after l.limit (take l.number-index l.numbers));
   counted : g.V.View.failed l.fn.view ≤ g.V.View.failed l.view;
 }

@@ -20,7 +20,7 @@ returns-in-Ok-clause-written g c = λ honest.
                 (g.W.Write.contents c.write_forest.new.writer)
                 (whole_text (g.V.View.content held).records c.in-Ok.index c.args.society.now)
                 (text (exported (g.V.View.content held).records c.args.society.now))
-                (whole_same (g.V.View.content held).records c.in-Ok.index (one.1 sound) c.args.society.now) two.1,
+                (whole_same (g.V.View.content held).records c.in-Ok.index one.1 c.args.society.now) two.1,
           ),
     )
 

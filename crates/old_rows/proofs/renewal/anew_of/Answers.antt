@@ -1,4 +1,4 @@
-use Rattle.std.proofs.Common.{◌≡◌, true, false, sym, ◌∙◌, rules}
+use Rattle.std.proofs.Common.{rules}
 use Rattle.records_anew.specs.Reading.{IsReadAnew}
 use Rattle.records_anew.specs.declared.reading.ReadAnew.TheVariants.{Stays, Changes}
 use Rattle.old_rows.proofs.Items.{read_is}
@@ -9,11 +9,9 @@ returns-in_ok-kept-in-Stays-clause-read c =
     let read : IsReadAnew c.args.lines.now (Stays c.in-Stays.found) = search rules in
     let kept = c.in_ok-kept-in-Stays.ensures in
     read_is c.args.lines.now c.in-Stays.found c.in_ok-kept-in-Stays.field-0 read.0 kept.lines kept.span kept.sought
-    (λ _. read.1)
 
 pub returns-in_ok-kept-in-Changes-clause-read : goal.returns-in_ok-kept-in-Changes-clause-read
 returns-in_ok-kept-in-Changes-clause-read c =
     let read : IsReadAnew c.args.lines.now (Changes c.in-Changes.found) = search rules in
     let kept = c.in_ok-kept-in-Changes.ensures in
     read_is c.args.lines.now c.in-Changes.found c.in_ok-kept-in-Changes.field-0 read.0 kept.lines kept.span kept.sought
-    (λ e. let no : true ≡ false = sym kept.changed ∙ e in absurd cc)

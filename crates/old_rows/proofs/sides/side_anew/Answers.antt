@@ -1,9 +1,11 @@
-use Rattle.std.proofs.Common.{refl, inr, ap, sym, ◌∙◌, ℕ}
+use Rattle.std.proofs.Common.{refl, inr, ap, sym, subst, ◌∙◌, ℕ}
 use Rattle.std.specs.List.{list_all}
 use Rattle.store_rows.specs.Meaning.{side_lines}
-use Rattle.store_rows.specs.Sides.{SideLine, is_of}
+use Rattle.store_rows.specs.Sides.{SideLine, is_of, side_lines_in}
 use Rattle.std.proofs.lemmas.Result.{err_from_is_err_and}
 use Rattle.store_rows.proofs.SidesRead.{all_of_side, weaker}
+use Rattle.old_rows.specs.Reading.{IsSideAnewOf}
+use Rattle.old_rows.specs.Renewing.{Anew}
 use Rattle.old_rows.proofs.Parted.{mixed, no_side, one_side_anew}
 use Rattle.old_rows.proofs.sides.side_anew.Goals as goal
 
@@ -28,6 +30,8 @@ returns-clause-read c =
     let b = c.first-2.inside.is_new in
     let n = c.first-2.inside.number in
     let stored = c.deref.ensures.value ∙ c.in_ok-stored.ensures in
-    one_side_anew c.args.lines.now b n c.deref.result.now _ stored
+    let lines = side_lines_in c.args.lines.now in
+    subst (λ (a : Anew). IsSideAnewOf lines (b, (n, a.lines))) (sym c.result.view_is)
+    (one_side_anew c.args.lines.now b n c.deref.result.now _ stored
     (all_of_side b n c.args.lines.now (sym c.are_of_side.ensures ∙ c.if-not-are_of_side.false)
-    ∙ ap (side_lines b n) (sym stored)) c.in_ok-anew_of.ensures.read
+    ∙ ap (side_lines b n) (sym stored)) c.in_ok-anew_of.ensures.read)

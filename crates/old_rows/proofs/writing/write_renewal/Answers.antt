@@ -1,6 +1,7 @@
 -- The tables and the version, the records, and then the slips.
 use Rattle.std.proofs.Common.{arith}
 use Rattle.old_rows.specs.Renewing.{with_records_anew, with_slips_anew}
+use Rattle.old_rows.proofs.Rest.{records_keep}
 use Rattle.old_rows.proofs.Steps.{renewed}
 use Rattle.old_rows.proofs.writing.write_renewal.Goals as goal
 
@@ -20,4 +21,4 @@ returns-clause-ok g c clean =
       c.write_slips.ensures.survives.clean,
     )) in
     rw (← c.renewal.view_is) (renewed c.write_slips.result _ _ _ _ _ (with_records_anew renewal.records.items)
-    (with_slips_anew renewal.slips.items) one two three last)
+    (with_slips_anew renewal.slips.items) (records_keep renewal.records.items) one two three last)

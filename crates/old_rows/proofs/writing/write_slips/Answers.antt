@@ -1,6 +1,7 @@
 -- One turn more.
 use Rattle.std.proofs.Common.{drop, ap, ◌∙◌, ◌+◌}
-use Rattle.store_tables.proofs.Loops.{goes_on, item_left}
+use Rattle.store_tables.proofs.Loops.{item_left}
+use Rattle.store_rows.proofs.Dated.{goes_on}
 use Rattle.old_rows.specs.Renewing.{with_slip_anew, with_slips_anew}
 use Rattle.old_rows.proofs.writing.write_slips.Goals as goal
 
@@ -12,6 +13,6 @@ slips-preserved g c =
     let left = item_left slips c.slips.slip-index slip slip c.slips-test.true c.slip-item.is in (
       c.write_slip.ensures.same_reference ∙ c.slips.invariant.0,
       goes_on _ _ _ _ _ (with_slip_anew slip) (with_slips_anew rest) c.slips.invariant.1
-          c.in_ok-write_slip.ensures.ok c.write_slip.ensures.survives
+          (λ rows has. has) c.in_ok-write_slip.ensures.ok c.write_slip.ensures.survives
           (λ rows. ap (λ all. with_slips_anew all rows) left),
     )

@@ -1,9 +1,10 @@
 -- One part of the changes after the other.
 use Rattle.std.proofs.Common.{arith}
 use Rattle.store_tables.specs.Rows.{Rows, with_next}
-use Rattle.store_tables.proofs.Calls.{follows_then}
-use Rattle.store_tables.proofs.Loops.{and_last}
+use Rattle.store_tables.proofs.Calls.{follows_then, on_ok}
 use Rattle.store_rows.specs.Writing.{with_puts_written, without_records, with_kept_written, with_slip_written}
+use Rattle.store_rows.proofs.Dated.{row_then}
+use Rattle.store_rows.proofs.SpansAside.{still}
 use Rattle.store_rows.proofs.writing.write_all.Goals as goal
 
 pub returns-clause-ok : goal.returns-clause-ok
@@ -27,4 +28,6 @@ returns-clause-ok g c clean =
     ))) in
     let records = λ (rows : Rows). without_records removals (with_puts_written puts rows) in
     let first = follows_then _ _ _ (λ rows. next (records rows)) kept (follows_then _ _ _ records next one two) three in
-    rw (← c.changes.view_is) (and_last c.write_slip.result _ _ _ (λ rows. kept (next (records rows))) slip first last)
+    rw (← c.changes.view_is) (on_ok c.write_slip.result
+    (row_then _ _ _ (λ rows. kept (next (records rows))) slip
+    (λ rows. still puts removals changes.next changes.kept rows) first) last)

@@ -2,14 +2,16 @@ use Rattle.std.proofs.Common.{pos, ◌==◌, [], ◌∷◌, filter}
 use Rattle.sqlite.specs.Held.{state}
 use Rattle.std.proofs.lemmas.List.{length-map}
 use Rattle.sqlite.specs.declared.types.Value.TheVariants.{Int}
-use Rattle.store_tables.specs.Reading.{read_pack}
+use Rattle.store_tables.specs.Reading.{IsTypedPack, read_pack}
+use Rattle.store_tables.specs.Showing.{ShowsPack}
+use Rattle.store_tables.specs.Shown.{shown_pack}
 use Rattle.store_tables.specs.Rows.{PackRow}
 use Rattle.store_tables.proofs.Coded.{kept_by}
 use Rattle.store_tables.proofs.KeyedQueries.{one_at_most}
 use Rattle.store_tables.proofs.LaterStatements.{kept_of}
 use Rattle.store_tables.proofs.PackQueries.{reads_pack_at}
 use Rattle.store_tables.proofs.PackTexts.{pack_at, pack_at_plain}
-use Rattle.store_tables.proofs.Packing.{looks_packs}
+use Rattle.store_tables.proofs.Packing.{looks_typed}
 use Rattle.store_tables.proofs.ReadingRows.{looks_where}
 use Rattle.store_tables.proofs.keyed.packs_at.Goals as goal
 
@@ -30,7 +32,8 @@ returns-clause-looks g c =
           (one_at_most (λ (x : PackRow). x.no) c.args.number rows.packs
           (kept_of rows old.now.trees second was.good.holds).packs_kept.rise),
     )) (
-    looks_packs (λ items. items.items) pack_at (Int (pos c.args.number) ∷ []) old new c.read_all.result
+    looks_typed IsTypedPack shown_pack read_pack ShowsPack (λ items. items.items) pack_at
+    (Int (pos c.args.number) ∷ []) old new c.read_all.result
     (λ rows. filter (λ (x : PackRow). x.no == c.args.number) rows.packs)
     (λ rows was all shown. reads_pack_at old new c.args.number all rows
     (c.requires.second rows.has_spans was.schema) was shown)

@@ -19,6 +19,6 @@ returns-clause-shown g c clean has_spans has =
     let clean_two = c.in_ok-slip_lines.ensures.looks.clean clean in
     let clean_one = c.in_ok-slips.ensures.looks.clean clean_two in
     shows_history (state g.S.Store c.args.conn.now) (state g.S.Store c.read_receipts.new.conn)
-    (state g.S.Store c.read_slips.new.conn) (state g.S.Store c.read_slip_lines.new.conn) _
+    (state g.S.Store c.read_slips.new.conn) (state g.S.Store c.read_sides.new.conn) _
     _ _ has_spans has (c.in_ok-receipts.ensures.shown clean_one has_spans has)
     (c.in_ok-slips.ensures.shown clean_two has_spans) (c.in_ok-slip_lines.ensures.shown clean has_spans)

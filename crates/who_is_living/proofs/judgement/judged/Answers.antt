@@ -1,4 +1,4 @@
-use Rattle.std.proofs.Common.{◌≡◌, ◌-◌, ◌≤◌, ◌∙◌, sym, ap, subst, w32}
+use Rattle.std.proofs.Common.{subst, w32}
 use Rattle.std.specs.Prelude.{ℤ}
 use Rattle.std.proofs.lemmas.Int.{to_z-of_z}
 use Rattle.who_is_living.specs.Evidence.{IsOpenEntry}
@@ -9,16 +9,12 @@ use Rattle.who_is_living.proofs.Judging.{judged_is}
 use Rattle.who_is_living.proofs.judgement.judged.Goals as goal
 
 pub returns : goal.returns
-returns c = λ sound.
+returns c =
     let today = to_z-of_z w32 c.args.today c.ranges.today in
-    let is : c.last_number-last.result ≡ c.args.state.now.next - 1 = c.last_number-last.ensures
-    (subst (λ n. n ≤ 4294967296) (sym c.next.ensures) sound.bounded)
-    ∙ ap (λ n. n - 1) c.next.ensures in
-    judged_is c.args.state.now c.args.today c.last_number-last.result c.in_ok-living.living
-    c.in_ok-silent.silent c.in_ok-open_entries.open_entries sound is
-    (subst (λ (t : ℤ). KnowsLiving c.args.state.now.records t c.in_ok-living.living) today
-    (c.in_ok-living.ensures sound is))
+    judged_is c.args.state.now.records c.args.today c.in_ok-living.living c.in_ok-silent.silent
+    c.in_ok-open_entries.open_entries
+    (subst (λ (t : ℤ). KnowsLiving c.args.state.now.records t c.in_ok-living.living) today c.in_ok-living.ensures)
     c.in_ok-silent.ensures
     (subst (λ (t : ℤ). Has c.in_ok-open_entries.open_entries
-    (IsTold c.args.state.now.records c.last_number-last.result (IsOpenEntry t c.in_ok-living.living))) today
+    (IsTold c.args.state.now.records (IsOpenEntry t c.in_ok-living.living))) today
     c.in_ok-open_entries.ensures)

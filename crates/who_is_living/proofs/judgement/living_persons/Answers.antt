@@ -9,11 +9,11 @@ use Rattle.who_is_living.proofs.Life.{living_known}
 use Rattle.who_is_living.proofs.judgement.living_persons.Goals as goal
 
 pub returns : goal.returns
-returns c = λ sound is.
+returns c =
     let fits : SFits w64 c.long_before-day.result = search rules in
-    living_known c.args.state.now c.args.today c.args.last c.in_ok-dead.dead c.in_ok-old.old
-    c.in_ok-partners.partners c.in_ok-living.living sound is c.in_ok-dead.ensures
-    (subst (λ (day : ℤ). Has c.in_ok-old.old (IsTold c.args.state.now.records c.args.last (IsOldEvent day)))
+    living_known c.args.state.now.records c.args.today c.in_ok-dead.dead c.in_ok-old.old
+    c.in_ok-partners.partners c.in_ok-living.living c.in_ok-dead.ensures
+    (subst (λ (day : ℤ). Has c.in_ok-old.old (IsTold c.args.state.now.records (IsOldEvent day)))
     (to_z-of_z w64 c.long_before-day.result fits ∙ c.long_before-day.ensures
     ∙ ap long_before (to_z-of_z w32 c.args.today c.ranges.today)) c.in_ok-old.ensures)
     c.in_ok-partners.ensures c.in_ok-living.ensures
