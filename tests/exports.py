@@ -328,6 +328,21 @@ def nothing_changes(tools):
         demand(at.tables() == before, "the tables changed")
 
 
+def numbers_far_apart(tools):
+    """Two records with four thousand million numbers between them are read and written at once."""
+    with Exported(tools) as at:
+        at.with_rows(["a,person,Ann /Lee/,F"]).other_database("UPDATE meta SET next = 4294967293")
+        expect(at.apply(lines(["b,person,Bob /Lee/,M"])), written(b"b,ok,4294967293,1\n"))
+        records = "".join(
+            f"0 @I{number}@ INDI\n1 NAME {name} /Lee/\n1 SEX {sex}\n"
+            for number, name, sex in ((1, "Ann", "F"), (4294967293, "Bob", "M"))
+        )
+        expect(at.export(), written((HEADER + records + TRAILER).encode()))
+        expect(run(tools.parish, ("audit", at.file), b""), written(b"sound: 2 records\n"))
+        for words in (("export", at.file, "--public"), ("sheet", at.file, "person", "4294967293")):
+            demand(run(tools.parish, words, b"").status == 0, f"{words[2:]} was refused")
+
+
 def no_archive(tools):
     refused_as_no_archive(Exported, tools, Exported.export)
 
@@ -400,6 +415,7 @@ TESTS = (
     exports,
     it_is_canonical,
     nothing_changes,
+    numbers_far_apart,
     no_archive,
     an_output_that_is_full,
     a_reader_that_left,
