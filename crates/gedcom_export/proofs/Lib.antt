@@ -1,5 +1,6 @@
 mod Found
 pub mod Households
+pub mod Keeping
 mod Lines
 pub mod Moving
 mod Nothing

@@ -1,66 +1,60 @@
 //! The text of one record of level 0, with what it owns.
 
-ghost use Rattle.std.specs.Prelude.{◌≡◌, ◌++◌, [], map, codes, OnOk, Some, string_bytes};
+ghost use Rattle.std.specs.Prelude.{◌≡◌, ◌++◌, [], map, codes, OnOk, Some, option_copied, string_bytes};
 ghost use Rattle.record_kinds.specs.declared.record.Record.TheVariants as kind;
 ghost use Rattle.record_shapes.specs.Shapes.{shape_of, side_line};
 ghost use Rattle.record_nodes.specs.Pages.{page, record_page};
-ghost use Rattle.archive_view.specs.Looks.{CountsFailures, Looked, OnView};
 ghost use Rattle.export_index.specs.Index.{IsArranged};
 ghost use Rattle.export_index.specs.Shown.{around_in, names_in};
 ghost use Rattle.export_index.specs.declared.membership.Membership as membership;
 ghost use Rattle.gedcom_export.specs.Pieces.{text_at, text_of};
 
 use crate::owned::{push_citations, push_events};
-use archive_view::View;
+use archive_state::State;
 use export_index::{Index, Membership};
 use node_writing::{
     push_carried, push_entry, push_family, push_head, push_other_head, push_person, push_place,
     push_repo, push_side, push_source,
 };
-use records::{Entry, Family, Other, Person, Place, Record, RefusalKind, Repo, Source};
+use records::{Entry, Family, Other, Person, Place, Record, Repo, Source};
 use std::alloc::{AllocError, Global};
 
 /// Appends the record of a number, with what it owns. An event or a citation has its lines below another record, so
 /// nothing is appended for it.
-pub(crate) fn push_record<V: View>(
+pub(crate) fn push_record(
     alloc: Global,
-    view: &mut V,
+    state: &State,
     index: &Index,
     text: &mut String,
     number: u32,
-) -> Result<(), RefusalKind>
+) -> Result<(), AllocError>
     requires { IsArranged index.now }
-    ensures shows { OnView V.is_honest V.shows V.content view.old view.new
-        (λ c. Looked result (λ _. string_bytes text.new ≡ string_bytes text.old
-        ++ text_at c.records index.now number)) }
-    ensures counts { CountsFailures (V.failed view.old) (V.failed view.new) result }
+    ensures { OnOk result (string_bytes text.new ≡ string_bytes text.old
+        ++ text_at state.now.records index.now number) }
 {
-    let found = view.record_at(alloc, number)?;
-    push_found(alloc, view, index, text, number, &found)
+    push_found(alloc, state, index, text, number, state.record(number))
 }
 
-fn push_found<V: View>(
+fn push_found(
     alloc: Global,
-    view: &mut V,
+    state: &State,
     index: &Index,
     text: &mut String,
     number: u32,
-    found: &Option<Record>,
-) -> Result<(), RefusalKind>
+    found: Option<&Record>,
+) -> Result<(), AllocError>
     requires { IsArranged index.now }
-    ensures shows { OnView V.is_honest V.shows V.content view.old view.new
-        (λ c. Looked result (λ _. string_bytes text.new ≡ string_bytes text.old
-        ++ text_of c.records index.now number found.now)) }
-    ensures counts { CountsFailures (V.failed view.old) (V.failed view.new) result }
+    ensures { OnOk result (string_bytes text.new ≡ string_bytes text.old
+        ++ text_of state.now.records index.now number (option_copied found.entry)) }
 {
     match found {
-        Some(Record::Place(place)) => Ok(push_place_page(alloc, index, text, number, place)?),
-        Some(Record::Repo(repo)) => Ok(push_repo_page(alloc, index, text, number, repo)?),
-        Some(Record::Source(source)) => Ok(push_source_page(alloc, index, text, number, source)?),
-        Some(Record::Person(person)) => push_person_page(alloc, view, index, text, number, person),
-        Some(Record::Family(family)) => push_family_page(alloc, view, index, text, number, family),
-        Some(Record::Entry(entry)) => Ok(push_entry_page(alloc, index, text, number, entry)?),
-        Some(Record::Other(other)) => Ok(push_other_page(alloc, index, text, number, other)?),
+        Some(Record::Place(place)) => push_place_page(alloc, index, text, number, place),
+        Some(Record::Repo(repo)) => push_repo_page(alloc, index, text, number, repo),
+        Some(Record::Source(source)) => push_source_page(alloc, index, text, number, source),
+        Some(Record::Person(person)) => push_person_page(alloc, state, index, text, number, person),
+        Some(Record::Family(family)) => push_family_page(alloc, state, index, text, number, family),
+        Some(Record::Entry(entry)) => push_entry_page(alloc, index, text, number, entry),
+        Some(Record::Other(other)) => push_other_page(alloc, index, text, number, other),
         Some(Record::Event(_) | Record::Citation(_)) | None => Ok(()),
     }
 }
@@ -136,26 +130,24 @@ fn push_other_page(
 }
 
 /// Appends a person: names and sex, events, families, citations, carried lines.
-fn push_person_page<V: View>(
+fn push_person_page(
     alloc: Global,
-    view: &mut V,
+    state: &State,
     index: &Index,
     text: &mut String,
     number: u32,
     person: &Person,
-) -> Result<(), RefusalKind>
+) -> Result<(), AllocError>
     requires { IsArranged index.now }
-    ensures shows { OnView V.is_honest V.shows V.content view.old view.new
-        (λ c. Looked result (λ _. string_bytes text.new ≡ string_bytes text.old
-        ++ text_of c.records index.now number (Some (kind.Person person.now)))) }
-    ensures counts { CountsFailures (V.failed view.old) (V.failed view.new) result }
+    ensures { OnOk result (string_bytes text.new ≡ string_bytes text.old
+        ++ text_of state.now.records index.now number (Some (kind.Person person.now))) }
 {
     push_head(alloc, text, index, number, "INDI", "")?;
     push_person(alloc, text, index, person)?;
-    push_events(alloc, view, index, text, index.events_of(number))?;
+    push_events(alloc, state, index, text, index.events_of(number))?;
     push_families(alloc, index, text, "FAMC", index.child_in(number))?;
     push_families(alloc, index, text, "FAMS", index.partner_in(number))?;
-    push_citations(alloc, view, index, text, 1, index.citations_of(number))?;
+    push_citations(alloc, state, index, text, 1, index.citations_of(number))?;
     push_carried(alloc, text, index, 1, &person.carried)?;
     Ok(())
 }
@@ -178,24 +170,22 @@ fn push_families(
 }
 
 /// Appends a family: its members, events, citations, carried lines.
-fn push_family_page<V: View>(
+fn push_family_page(
     alloc: Global,
-    view: &mut V,
+    state: &State,
     index: &Index,
     text: &mut String,
     number: u32,
     family: &Family,
-) -> Result<(), RefusalKind>
+) -> Result<(), AllocError>
     requires { IsArranged index.now }
-    ensures shows { OnView V.is_honest V.shows V.content view.old view.new
-        (λ c. Looked result (λ _. string_bytes text.new ≡ string_bytes text.old
-        ++ text_of c.records index.now number (Some (kind.Family family.now)))) }
-    ensures counts { CountsFailures (V.failed view.old) (V.failed view.new) result }
+    ensures { OnOk result (string_bytes text.new ≡ string_bytes text.old
+        ++ text_of state.now.records index.now number (Some (kind.Family family.now))) }
 {
     push_head(alloc, text, index, number, "FAM", "")?;
     push_family(alloc, text, index, family)?;
-    push_events(alloc, view, index, text, index.events_of(number))?;
-    push_citations(alloc, view, index, text, 1, index.citations_of(number))?;
+    push_events(alloc, state, index, text, index.events_of(number))?;
+    push_citations(alloc, state, index, text, 1, index.citations_of(number))?;
     push_carried(alloc, text, index, 1, &family.carried)?;
     Ok(())
 }

@@ -16,9 +16,11 @@ ghost use Rattle.gedcom_export.specs.Waiting.{Halts, IsShort, Moves};
 
 use crate::output::{Output, hand_over, make_way};
 use crate::page::push_record;
+use crate::reading::all_records;
+use archive_state::State;
 use archive_view::View;
 use devices::Device;
-use export_index::{Index, Rank, gathered};
+use export_index::{Index, Rank, index_of};
 use gedcom_line::write_line;
 use node_writing::push_header;
 use records::{Refusal, RefusalKind};
@@ -73,8 +75,8 @@ fn write_all<V: View, W: Write + Device>(
     ensures view { CountsFailures (V.failed view.old) (V.failed view.new) result }
     ensures writer { IfErr result (λ e. e ≡ WriteFailed → Rose before (W.failed writer.new)) }
 {
-    match gathered(alloc, view) {
-        Ok(index) => write_forest(alloc, view, &index, society, writer, before),
+    match all_records(alloc, view) {
+        Ok(state) => write_state(alloc, &state, society, writer, before),
         Err(kind) => Err(stop_of(kind)),
     }
 }
@@ -92,33 +94,72 @@ fn stop_of(kind: RefusalKind) -> RefusalKind
     }
 }
 
-/// Writes the text of the forest, as the index has it.
-fn write_forest<V: View, W: Write + Device>(
+/// Writes the records of a state as `export` writes those of an archive. None of them is copied.
+pub fn export_state<W: Write + Device>(
     alloc: Global,
-    view: &mut V,
+    state: &State,
+    society: &str,
+    writer: &mut W,
+) -> Result<(), Refusal>
+    ensures written { MatchResult result
+        (λ _. IsWhole (W.contents writer.old) (W.contents writer.new) (text (exported state.now.records society.now)))
+        (λ e. IsBegun (W.contents writer.old) (W.contents writer.new) (text (exported state.now.records society.now))
+        e.kind) }
+    ensures writer { IfErr result (λ e. e.kind ≡ WriteFailed → Rose (W.failed writer.old) (W.failed writer.new)) }
+    ensures own { IfErr result (λ e. is_failure e.kind ≡ false) }
+    ensures nowhere { IfErr result (λ e. e.at ≡ None) }
+{
+    let before = writer.failures();
+    Ok(write_state(alloc, state, society, writer, before)?)
+}
+
+fn write_state<W: Write + Device>(
+    alloc: Global,
+    state: &State,
+    society: &str,
+    writer: &mut W,
+    before: u64,
+) -> Result<(), RefusalKind>
+    ensures written { MatchResult result
+        (λ _. IsWhole (W.contents writer.old) (W.contents writer.new) (text (exported state.now.records society.now)))
+        (λ e. IsBegun (W.contents writer.old) (W.contents writer.new) (text (exported state.now.records society.now))
+        e) }
+    ensures writer { IfErr result (λ e. e ≡ WriteFailed → Rose before (W.failed writer.new)) }
+    ensures own { IfErr result (λ e. is_failure e ≡ false) }
+{
+    match index_of(alloc, state) {
+        Ok(index) => write_forest(alloc, state, &index, society, writer, before),
+        Err(_) => Err(RefusalKind::OutOfMemory),
+    }
+}
+
+/// Writes the text of the forest, as the index has it.
+fn write_forest<W: Write + Device>(
+    alloc: Global,
+    state: &State,
     index: &Index,
     society: &str,
     writer: &mut W,
     before: u64,
 ) -> Result<(), RefusalKind>
     requires { IsArranged index.now }
-    ensures written { OnView V.is_honest V.shows V.content view.old view.new (λ c. MatchResult result
+    ensures written { MatchResult result
         (λ _. IsWhole (W.contents writer.old) (W.contents writer.new)
-        (pieces.whole_text c.records index.now society.now))
+        (pieces.whole_text state.now.records index.now society.now))
         (λ e. IsBegun (W.contents writer.old) (W.contents writer.new)
-        (pieces.whole_text c.records index.now society.now) e)) }
-    ensures view { CountsFailures (V.failed view.old) (V.failed view.new) result }
+        (pieces.whole_text state.now.records index.now society.now) e) }
     ensures writer { IfErr result (λ e. e ≡ WriteFailed → Rose before (W.failed writer.new)) }
+    ensures own { IfErr result (λ e. is_failure e ≡ false) }
 {
     let mut out = Output::new(alloc);
-    write_parts(alloc, view, index, society, writer, before, &mut out)?;
+    write_parts(alloc, state, index, society, writer, before, &mut out)?;
     hand_over(writer, before, &mut out)
 }
 
 /// Puts the parts of the text behind each other: header, records, trailer.
-fn write_parts<V: View, W: Write + Device>(
+fn write_parts<W: Write + Device>(
     alloc: Global,
-    view: &mut V,
+    state: &State,
     index: &Index,
     society: &str,
     writer: &mut W,
@@ -126,17 +167,17 @@ fn write_parts<V: View, W: Write + Device>(
     out: &mut Output,
 ) -> Result<(), RefusalKind>
     requires { IsArranged index.now }
-    ensures written { OnView V.is_honest V.shows V.content view.old view.new (λ c. MatchResult result
+    ensures written { MatchResult result
         (λ _. Moves (W.contents writer.old) (W.contents writer.new) out.old out.new
-        (pieces.whole_text c.records index.now society.now))
+        (pieces.whole_text state.now.records index.now society.now))
         (λ e. Halts (W.contents writer.old) (W.contents writer.new) out.old
-        (pieces.whole_text c.records index.now society.now) e)) }
+        (pieces.whole_text state.now.records index.now society.now) e) }
     ensures short { OnOk result (IsShort out.new) }
-    ensures view { CountsFailures (V.failed view.old) (V.failed view.new) result }
     ensures writer { IfErr result (λ e. e ≡ WriteFailed → Rose before (W.failed writer.new)) }
+    ensures own { IfErr result (λ e. is_failure e ≡ false) }
 {
     begin(alloc, society, writer, before, out)?;
-    write_records(alloc, view, index, writer, before, out)?;
+    write_records(alloc, state, index, writer, before, out)?;
     end(writer, before, out)
 }
 
@@ -172,33 +213,33 @@ fn end<W: Write + Device>(writer: &mut W, before: u64, out: &mut Output) -> Resu
 }
 
 /// Writes the records of level 0, each with what it owns.
-fn write_records<V: View, W: Write + Device>(
+fn write_records<W: Write + Device>(
     alloc: Global,
-    view: &mut V,
+    state: &State,
     index: &Index,
     writer: &mut W,
     before: u64,
     out: &mut Output,
 ) -> Result<(), RefusalKind>
     requires { IsArranged index.now }
-    ensures written { OnView V.is_honest V.shows V.content view.old view.new (λ c. MatchResult result
+    ensures written { MatchResult result
         (λ _. Moves (W.contents writer.old) (W.contents writer.new) out.old out.new
-        (pieces.kinds_text c.records index.now pieces.ranks))
+        (pieces.kinds_text state.now.records index.now pieces.ranks))
         (λ e. Halts (W.contents writer.old) (W.contents writer.new) out.old
-        (pieces.kinds_text c.records index.now pieces.ranks) e)) }
-    ensures view { CountsFailures (V.failed view.old) (V.failed view.new) result }
+        (pieces.kinds_text state.now.records index.now pieces.ranks) e) }
     ensures writer { IfErr result (λ e. e ≡ WriteFailed → Rose before (W.failed writer.new)) }
+    ensures own { IfErr result (λ e. is_failure e ≡ false) }
 {
     'ranks: for rank in &RANKS {
-        write_kind(alloc, view, index, *rank, writer, before, out)?;
+        write_kind(alloc, state, index, *rank, writer, before, out)?;
     }
     Ok(())
 }
 
 /// Writes the records of a kind by number.
-fn write_kind<V: View, W: Write + Device>(
+fn write_kind<W: Write + Device>(
     alloc: Global,
-    view: &mut V,
+    state: &State,
     index: &Index,
     rank: Rank,
     writer: &mut W,
@@ -206,24 +247,24 @@ fn write_kind<V: View, W: Write + Device>(
     out: &mut Output,
 ) -> Result<(), RefusalKind>
     requires { IsArranged index.now }
-    ensures written { OnView V.is_honest V.shows V.content view.old view.new (λ c. MatchResult result
+    ensures written { MatchResult result
         (λ _. Moves (W.contents writer.old) (W.contents writer.new) out.old out.new
-        (pieces.kind_text c.records index.now rank))
+        (pieces.kind_text state.now.records index.now rank))
         (λ e. Halts (W.contents writer.old) (W.contents writer.new) out.old
-        (pieces.kind_text c.records index.now rank) e)) }
-    ensures view { CountsFailures (V.failed view.old) (V.failed view.new) result }
+        (pieces.kind_text state.now.records index.now rank) e) }
     ensures writer { IfErr result (λ e. e ≡ WriteFailed → Rose before (W.failed writer.new)) }
+    ensures own { IfErr result (λ e. is_failure e ≡ false) }
 {
     'records: for number in index.numbers(rank) {
-        write_record(alloc, view, index, *number, writer, before, out)?;
+        write_record(alloc, state, index, *number, writer, before, out)?;
     }
     Ok(())
 }
 
 /// Writes the record of a number, with what it owns.
-fn write_record<V: View, W: Write + Device>(
+fn write_record<W: Write + Device>(
     alloc: Global,
-    view: &mut V,
+    state: &State,
     index: &Index,
     number: u32,
     writer: &mut W,
@@ -231,16 +272,16 @@ fn write_record<V: View, W: Write + Device>(
     out: &mut Output,
 ) -> Result<(), RefusalKind>
     requires { IsArranged index.now }
-    ensures written { OnView V.is_honest V.shows V.content view.old view.new (λ c. MatchResult result
+    ensures written { MatchResult result
         (λ _. Moves (W.contents writer.old) (W.contents writer.new) out.old out.new
-        (pieces.text_at c.records index.now number))
+        (pieces.text_at state.now.records index.now number))
         (λ e. Halts (W.contents writer.old) (W.contents writer.new) out.old
-        (pieces.text_at c.records index.now number) e)) }
-    ensures view { CountsFailures (V.failed view.old) (V.failed view.new) result }
+        (pieces.text_at state.now.records index.now number) e) }
     ensures writer { IfErr result (λ e. e ≡ WriteFailed → Rose before (W.failed writer.new)) }
+    ensures own { IfErr result (λ e. is_failure e ≡ false) }
 {
-    match push_record(alloc, view, index, &mut out.text, number) {
+    match push_record(alloc, state, index, &mut out.text, number) {
         Ok(()) => make_way(writer, before, out),
-        Err(kind) => Err(stop_of(kind)),
+        Err(_) => Err(RefusalKind::OutOfMemory),
     }
 }

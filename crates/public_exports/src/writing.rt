@@ -10,7 +10,7 @@ ghost use Rattle.export_forest.specs.Forest.{exported};
 ghost use Rattle.gedcom_export.specs.Ends.{IsBegun, IsWhole};
 
 use devices::Device;
-use gedcom_export::export;
+use gedcom_export::export_state;
 use record_text::Refusal;
 use shown_state::Shown;
 use std::alloc::Global;
@@ -32,6 +32,5 @@ pub fn public_export<W: Write + Device>(
     ensures own { IfErr result (λ e. is_failure e.kind ≡ false) }
     ensures nowhere { IfErr result (λ e. e.at ≡ None) }
 {
-    let mut view = shown;
-    export(alloc, &mut view, society, writer)
+    export_state(alloc, shown.as_state(), society, writer)
 }

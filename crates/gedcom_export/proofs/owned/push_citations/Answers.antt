@@ -1,35 +1,13 @@
-use Rattle.std.proofs.Common.{arith}
 use Rattle.export_index.specs.Shown.{names_in}
 use Rattle.gedcom_export.proofs.Lines.{cited, cited_all, lines_done, then_lines}
 use Rattle.gedcom_export.proofs.owned.push_citations.Goals as goal
 
 pub citations-preserved : goal.citations-preserved
-citations-preserved g c = record {
-  shown = λ honest.
-      let step = c.in_ok-push_citation_at.ensures.shows honest in
-      let before = c.citations.invariant.shown step.0 in (
-        before.0,
-        λ held shown.
-            let was = before.1 held shown in
-            let now = step.1 held was.0 in (
-              now.0,
-              then_lines (names_in c.args.index.now) c.args.level (cited (g.V.View.content held).records)
-                  c.args.citations.now c.citations.citation-index (record { owner = 0; number = 0 }) _ _ _
-                  c.citations-test.true now.1 was.1,
-            ),
-      );
-  counted = omega (arith, c.in_ok-push_citation_at.ensures.counts.0, c.citations.invariant.counted);
-}
+citations-preserved c = then_lines (names_in c.args.index.now) c.args.level (cited c.args.state.now.records)
+    c.args.citations.now c.citations.citation-index (record { owner = 0; number = 0 }) _ _ _
+    c.citations-test.true c.in_ok-push_citation_at.ensures c.citations.invariant
 
-pub returns-clause-shows : goal.returns-clause-shows
-returns-clause-shows g c = λ honest.
-    let before = c.citations.invariant.shown honest in (
-      before.0,
-      λ held shown.
-          let was = before.1 held shown in (
-            was.0,
-            lines_done (names_in c.args.index.now) c.args.level (cited (g.V.View.content held).records)
-                c.args.citations.now c.citations.citation-index _ _ _ c.citations-test.false was.1
-                (cited_all (g.V.View.content held).records c.args.citations.now),
-          ),
-    )
+pub returns : goal.returns
+returns c = lines_done (names_in c.args.index.now) c.args.level (cited c.args.state.now.records)
+    c.args.citations.now c.citations.citation-index _ _ _ c.citations-test.false c.citations.invariant
+    (cited_all c.args.state.now.records c.args.citations.now)

@@ -1,16 +1,11 @@
-use Rattle.std.proofs.Common.{◌≡◌, ◌++◌, ◌≤◌, drop, string_bytes}
+use Rattle.std.proofs.Common.{◌≡◌, ◌++◌, drop, string_bytes}
 use Rattle.std.specs.List.{flat_map}
 use Rattle.record_nodes.specs.Pages.{page}
-use Rattle.archive_view.specs.Looks.{OnView}
 use Rattle.export_index.specs.Shown.{names_in}
 use Rattle.gedcom_export.proofs.Lines.{cited}
 use Rattle.gedcom_export.proofs.owned.push_citations.Given as goal
 
 abbrev pub invariant-citations : goal.invariant-citations
-invariant-citations g l = record {
-  shown : OnView g.V.View.is_honest g.V.View.shows g.V.View.content l.fn.view l.view
-      (λ c. string_bytes l.text ++ page (names_in l.index) l.level
-      (flat_map (cited c.records) (drop l.citation-index l.citations))
-      ≡ string_bytes l.fn.text ++ page (names_in l.index) l.level (flat_map (cited c.records) l.citations));
-  counted : g.V.View.failed l.fn.view ≤ g.V.View.failed l.view;
-}
+invariant-citations l = string_bytes l.text ++ page (names_in l.index) l.level
+    (flat_map (cited l.state.records) (drop l.citation-index l.citations))
+    ≡ string_bytes l.fn.text ++ page (names_in l.index) l.level (flat_map (cited l.state.records) l.citations)

@@ -1,16 +1,11 @@
-use Rattle.std.proofs.Common.{◌≡◌, ◌++◌, ◌≤◌, drop, string_bytes}
+use Rattle.std.proofs.Common.{◌≡◌, ◌++◌, drop, string_bytes}
 use Rattle.std.specs.List.{flat_map}
 use Rattle.record_nodes.specs.Pages.{page}
-use Rattle.archive_view.specs.Looks.{OnView}
 use Rattle.export_index.specs.Shown.{names_in}
 use Rattle.gedcom_export.proofs.Lines.{evented}
 use Rattle.gedcom_export.proofs.owned.push_events.Given as goal
 
 abbrev pub invariant-events : goal.invariant-events
-invariant-events g l = record {
-  shown : OnView g.V.View.is_honest g.V.View.shows g.V.View.content l.fn.view l.view
-      (λ c. string_bytes l.text ++ page (names_in l.index) 1
-      (flat_map (evented c.records l.index) (drop l.event-index l.events))
-      ≡ string_bytes l.fn.text ++ page (names_in l.index) 1 (flat_map (evented c.records l.index) l.events));
-  counted : g.V.View.failed l.fn.view ≤ g.V.View.failed l.view;
-}
+invariant-events l = string_bytes l.text ++ page (names_in l.index) 1
+    (flat_map (evented l.state.records l.index) (drop l.event-index l.events))
+    ≡ string_bytes l.fn.text ++ page (names_in l.index) 1 (flat_map (evented l.state.records l.index) l.events)

@@ -6,18 +6,10 @@ use Rattle.export_index.specs.Shown.{names_in}
 use Rattle.gedcom_export.proofs.Parted.{event_page}
 use Rattle.gedcom_export.proofs.owned.push_whole_event.Goals as goal
 
-pub returns-clause-shows : goal.returns-clause-shows
-returns-clause-shows g c = λ honest.
-    let step = c.in_ok-push_citations.ensures.shows honest in (
-      step.0,
-      λ held shown.
-          let now = step.1 held shown in (
-            now.0,
-            event_page (g.V.View.content held).records c.args.index.now c.args.number c.args.event.now
-                c.citations_of.result.now _ _ _ _
-                (c.citations_of.ensures c.requires) c.in_ok-push_event.ensures now.1
-                (c.in_ok-push_carried.ensures
-                ∙ ap (λ (l : Lines). string_bytes c.push_citations.new.text ++ page (names_in c.args.index.now) 2 l)
-                (c.deref.ensures.value ∙ ap (λ (e : model.Event). e.carried) c.event.view_is)),
-          ),
-    )
+pub returns : goal.returns
+returns c = event_page c.args.state.now.records c.args.index.now c.args.number c.args.event.now
+    c.citations_of.result.now _ _ _ _
+    (c.citations_of.ensures c.requires) c.in_ok-push_event.ensures c.in_ok-push_citations.ensures
+    (c.in_ok-push_carried.ensures
+    ∙ ap (λ (l : Lines). string_bytes c.push_citations.new.text ++ page (names_in c.args.index.now) 2 l)
+    (c.deref.ensures.value ∙ ap (λ (e : model.Event). e.carried) c.event.view_is))

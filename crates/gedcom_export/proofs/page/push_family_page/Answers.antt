@@ -6,21 +6,12 @@ use Rattle.export_index.specs.Shown.{names_in}
 use Rattle.gedcom_export.proofs.Parted.{family_page}
 use Rattle.gedcom_export.proofs.page.push_family_page.Goals as goal
 
-pub returns-clause-shows : goal.returns-clause-shows
-returns-clause-shows g c = λ honest.
-    let second = c.in_ok-push_citations.ensures.shows honest in
-    let first = c.in_ok-push_events.ensures.shows second.0 in (
-      first.0,
-      λ held shown.
-          let one = first.1 held shown in
-          let two = second.1 held one.0 in (
-            two.0,
-            family_page (g.V.View.content held).records c.args.index.now c.args.number c.args.family.now
-                c.events_of.result.now c.citations_of.result.now _ _ _ _ _ _
-                (c.events_of.ensures c.requires) (c.citations_of.ensures c.requires)
-                c.in_ok-push_head.ensures c.in_ok-push_family.ensures one.1 two.1
-                (c.in_ok-push_carried.ensures
-                ∙ ap (λ (l : Lines). string_bytes c.push_citations.new.text ++ page (names_in c.args.index.now) 1 l)
-                (c.deref.ensures.value ∙ ap (λ (f : model.Family). f.carried) c.family.view_is)),
-          ),
-    )
+pub returns : goal.returns
+returns c = family_page c.args.state.now.records c.args.index.now c.args.number c.args.family.now
+    c.events_of.result.now c.citations_of.result.now _ _ _ _ _ _
+    (c.events_of.ensures c.requires) (c.citations_of.ensures c.requires)
+    c.in_ok-push_head.ensures c.in_ok-push_family.ensures c.in_ok-push_events.ensures
+    c.in_ok-push_citations.ensures
+    (c.in_ok-push_carried.ensures
+    ∙ ap (λ (l : Lines). string_bytes c.push_citations.new.text ++ page (names_in c.args.index.now) 1 l)
+    (c.deref.ensures.value ∙ ap (λ (f : model.Family). f.carried) c.family.view_is))

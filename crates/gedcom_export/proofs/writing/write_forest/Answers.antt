@@ -4,32 +4,17 @@ use Rattle.gedcom_export.proofs.Moving.{begun_of, ends_of}
 use Rattle.gedcom_export.proofs.writing.write_forest.Goals as goal
 
 pub returns-clause-written : goal.returns-clause-written
-returns-clause-written g c = λ honest.
-    let step = c.in_ok-write_parts.ensures.written honest in (
-      step.0,
-      λ held shown.
-          let now = step.1 held shown in (
-            now.0,
-            ends_of c.hand_over.result (g.W.Write.contents c.args.writer.now)
-                (g.W.Write.contents c.write_parts.new.writer) (g.W.Write.contents c.hand_over.new.writer)
-                c.new-out.result c.write_parts.new.out c.hand_over.new.out
-                (whole_text (g.V.View.content held).records c.args.index.now c.args.society.now)
-                c.new-out.ensures.written c.new-out.ensures.text now.1 c.hand_over.ensures.moved
-                c.hand_over.ensures.short c.hand_over.ensures.all,
-          ),
-    )
+returns-clause-written g c = ends_of c.hand_over.result (g.W.Write.contents c.args.writer.now)
+    (g.W.Write.contents c.write_parts.new.writer) (g.W.Write.contents c.hand_over.new.writer)
+    c.new-out.result c.write_parts.new.out c.hand_over.new.out
+    (whole_text c.args.state.now.records c.args.index.now c.args.society.now)
+    c.new-out.ensures.written c.new-out.ensures.text c.in_ok-write_parts.ensures.written
+    c.hand_over.ensures.moved c.hand_over.ensures.short c.hand_over.ensures.all
 
 pub returns-in_err-write_parts-clause-written : goal.returns-in_err-write_parts-clause-written
-returns-in_err-write_parts-clause-written g c = λ honest.
-    let step = c.in_err-write_parts.ensures.written honest in (
-      step.0,
-      λ held shown.
-          let now = step.1 held shown in
-          let same : c.from_residual.result ≡ Err c.in_err-write_parts.field-0.0 = search rules in (
-            now.0,
-            rw same (begun_of (g.W.Write.contents c.args.writer.now) (g.W.Write.contents c.write_parts.new.writer)
-                c.new-out.result
-                (whole_text (g.V.View.content held).records c.args.index.now c.args.society.now) _
-                c.new-out.ensures.written c.new-out.ensures.text now.1),
-          ),
-    )
+returns-in_err-write_parts-clause-written g c =
+    let same : c.from_residual.result ≡ Err c.in_err-write_parts.field-0.0 = search rules in
+    rw same (begun_of (g.W.Write.contents c.args.writer.now) (g.W.Write.contents c.write_parts.new.writer)
+    c.new-out.result
+    (whole_text c.args.state.now.records c.args.index.now c.args.society.now) _
+    c.new-out.ensures.written c.new-out.ensures.text c.in_err-write_parts.ensures.written)

@@ -1,4 +1,4 @@
-use Rattle.std.proofs.Common.{◌≡◌, List, ℕ, Err, arith, rules, sym}
+use Rattle.std.proofs.Common.{◌≡◌, List, ℕ, Err, rules, sym}
 use Rattle.std.specs.List.{flat_map}
 use Rattle.archive_state.specs.Content.{Records}
 use Rattle.gedcom_export.specs.Pieces.{text_at}
@@ -6,48 +6,26 @@ use Rattle.gedcom_export.proofs.Moving.{at_start, ends_between, next_text, one_f
 use Rattle.gedcom_export.proofs.writing.write_kind.Goals as goal
 
 pub records-init : goal.records-init
-records-init g c = record {
-  shown = λ honest. (honest, λ held shown. (shown, at_start _ _ _));
-  counted = omega arith;
-}
+records-init g c = at_start _ _ _
 
 pub records-preserved : goal.records-preserved
-records-preserved g c = record {
-  shown = λ honest.
-      let step = c.in_ok-write_record.ensures.written honest in
-      let before = c.records.invariant.shown step.0 in (
-        before.0,
-        λ held shown.
-            let was = before.1 held shown in
-            let now = step.1 held was.0 in
-            let m : Records = (g.V.View.content held).records in
-            let numbers : List ℕ = c.numbers-number-items.result.now in (
-              now.0,
-              one_further (g.W.Write.contents c.args.writer.now) (g.W.Write.contents c.records.writer)
-                  (g.W.Write.contents c.write_record.new.writer) c.args.out.now c.records.out c.write_record.new.out
-                  (flat_map (text_at m c.args.index.now) numbers) _ _ _ was.1
-                  (next_text (text_at m c.args.index.now) numbers c.records.number-index 0 c.records-test.true) now.1,
-            ),
-      );
-  counted = omega (arith, c.in_ok-write_record.ensures.view.0, c.records.invariant.counted);
-}
+records-preserved g c =
+    let m : Records = c.args.state.now.records in
+    let numbers : List ℕ = c.numbers-number-items.result.now in
+    one_further (g.W.Write.contents c.args.writer.now) (g.W.Write.contents c.records.writer)
+    (g.W.Write.contents c.write_record.new.writer) c.args.out.now c.records.out c.write_record.new.out
+    (flat_map (text_at m c.args.index.now) numbers) _ _ _ c.records.invariant
+    (next_text (text_at m c.args.index.now) numbers c.records.number-index 0 c.records-test.true)
+    c.in_ok-write_record.ensures.written
 
 pub returns-in_err-write_record-clause-written : goal.returns-in_err-write_record-clause-written
-returns-in_err-write_record-clause-written g c = λ honest.
-    let step = c.in_err-write_record.ensures.written honest in
-    let before = c.records.invariant.shown step.0 in (
-      before.0,
-      λ held shown.
-          let was = before.1 held shown in
-          let now = step.1 held was.0 in
-          let m : Records = (g.V.View.content held).records in
-          let numbers : List ℕ = c.numbers-number-items.result.now in
-          let same : c.from_residual.result ≡ Err c.in_err-write_record.field-0.0 = search rules in (
-            now.0,
-            rw (same, sym c.numbers-number-items.ensures) (ends_between (g.W.Write.contents c.args.writer.now)
-                (g.W.Write.contents c.records.writer)
-                (g.W.Write.contents c.write_record.new.writer) c.args.out.now c.records.out
-                (flat_map (text_at m c.args.index.now) numbers) _ _ _ _ was.1
-                (next_text (text_at m c.args.index.now) numbers c.records.number-index 0 c.records-test.true) now.1),
-          ),
-    )
+returns-in_err-write_record-clause-written g c =
+    let m : Records = c.args.state.now.records in
+    let numbers : List ℕ = c.numbers-number-items.result.now in
+    let same : c.from_residual.result ≡ Err c.in_err-write_record.field-0.0 = search rules in
+    rw (same, sym c.numbers-number-items.ensures) (ends_between (g.W.Write.contents c.args.writer.now)
+    (g.W.Write.contents c.records.writer)
+    (g.W.Write.contents c.write_record.new.writer) c.args.out.now c.records.out
+    (flat_map (text_at m c.args.index.now) numbers) _ _ _ _ c.records.invariant
+    (next_text (text_at m c.args.index.now) numbers c.records.number-index 0 c.records-test.true)
+    c.in_err-write_record.ensures.written)
