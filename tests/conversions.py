@@ -1,5 +1,6 @@
 """Files in other character sets, converted by a program of the tests (crates/conversion_rows). What is expected of the
-code pages, of UTF-16 and of UTF-8 is what Python's codecs say; of ANSEL it is written by hand from ANSI/NISO Z39.47.
+code pages, of UTF-16 and of UTF-8 is what Python's codecs say; of ANSEL, and of what standard error says, it is written
+by hand, from ANSI/NISO Z39.47 and from docs/FORMATS.md.
 """
 
 from __future__ import annotations
@@ -68,20 +69,72 @@ HEADS = (
     (b"", "utf-8"),
 )
 
+# How the counts of a report begin.
+OTHERS = "lines with other characters than ASCII: "
+JOINED = "values cut within a character, which their CONC now has whole: "
+STRAYS = "bytes that are no UTF-8, read as Windows-1252: "
+LOST = "U+FFFD, for what could not be read: "
+MARKED = "marks of ANSEL before what is no letter: "
+CHANGED = "lines CHAR that now say UTF-8: "
+ADDED = "lines CHAR added: 1\n"
+MARKS = "marks at the beginning, left out: "
+FILLING = "NUL and Ctrl-Z at the end, left out: "
+
+# Files with the set that is asked for, and what standard error says of each.
+REPORTS = (
+    ("-", b"0 HEAD\n1 CHAR UTF-8\n0 TRLR\n", "read as UTF-8: no byte is above 7F\n"),
+    ("-", b"0 HEAD\n1 char  UTF-8\n", f"read as UTF-8: no byte is above 7F\n{ADDED}"),
+    ("-", b"0 HEAD\n1 CHAR utf-8\n", f"read as UTF-8: no byte is above 7F\n{CHANGED}1, line 2\n"),
+    ("-", b"0 HEAD\n1 CHAR ANSEL\n", f"read as UTF-8: no byte is above 7F\nCHAR says ANSEL\n{CHANGED}1, line 2\n"),
+    ("-", b"0 HEAD\n1 CHAR ANSI\n1 CHAR Ansel\n", f"read as UTF-8: no byte is above 7F\nCHAR says ANSI ANSEL\n"
+        f"{CHANGED}2, line 2, line 3\n"),
+    ("-", b"", "read as UTF-8: no byte is above 7F\n"),
+    ("-", b"0 NOTE\n1 CHAR ANSEL\n", "read as UTF-8: no byte is above 7F\n"),
+    ("-", b"0 HEAD\r\n1 NOTE \xc3\xbc", f"read as UTF-8: all of it is UTF-8\n{ADDED}{OTHERS}1\n  2: 1 NOTE \u00fc\n"),
+    ("-", b"\xef\xbb\xbf\xef\xbb\xbf0 HEAD\n1 CHAR UTF-8\n0 TRLR\n\x1a\0",
+        f"read as UTF-8: the mark at its beginning says so\n{MARKS}2\n{FILLING}2\n"),
+    ("ansel", "\ufeff0 HEAD\n1 CHAR UTF-8\n".encode("utf-16-be"),
+        f"read as UTF-16, high byte first: the mark at its beginning says so\n{MARKS}1\n"),
+    ("-", "0 HEAD\n1 CHAR UTF-8\n".encode("utf-16-le"),
+        "read as UTF-16, low byte first: a NUL is one of its first two bytes\n"),
+    ("1252", b"0 HEAD\n1 CHAR ANSI\n1 NOTE \x80\x81\n", f"read as Windows-1252: --from says so\n{CHANGED}1, line 2\n"
+        f"{OTHERS}1\n  3: 1 NOTE \u20ac\ufffd\n{LOST}1, line 3\n"),
+    ("macintosh", b"0 HEAD\n1 CHAR KLINGON\x07\n1 NOTE \x80\n",
+        f"read as MacRoman: --from says so\nCHAR says KLINGON \n{CHANGED}1, line 2\n{OTHERS}1\n  3: 1 NOTE \u00c4\n"),
+    ("-", b"0 HEAD\n1 CHAR IBMPC\n1 NOTE \x81\n",
+        f"read as code page 437: CHAR says so\n{CHANGED}1, line 2\n{OTHERS}1\n  3: 1 NOTE \u00fc\n"),
+    ("-", b"0 HEAD\n1 CHAR ANSEL\n1 NOTE M\xe8\n2 CONC uller\n1 NOTE \xe2\xe2 \xe2\n1 NOTE \xe27\n",
+        f"read as ANSEL: CHAR says so\n{CHANGED}1, line 2\n{OTHERS}3\n  4: 2 CONC \u00fcller\n"
+        f"  5: 1 NOTE  \u0301\u0301\ufffd\n  6: 1 NOTE 7\u0301\n{JOINED}1, line 4\n{LOST}1, line 5\n"
+        f"{MARKED}2, line 5, line 6\n"),
+    ("-", b"0 HEAD\n1 NOTE \xef\xbf\xbd\xef\xbf\xbd\n \n1 NOTE \xef\xbf\xbd\n",
+        f"read as UTF-8: all of it is UTF-8\n{ADDED}{OTHERS}2\n  2: 1 NOTE \ufffd\ufffd\n  3: 1 NOTE \ufffd\n"
+        f"{LOST}3, line 2, line 3\n"),
+)
+
+# Files whose set is not known, and the hint of each.
+SAY = "  say which set it is: --from 1252, 437, 850, macintosh, ansel or utf-8\n"
+HINTS = (
+    (b"0 HEAD\n1 NOTE \xe8u\n", "  no line CHAR of its HEAD says the set, and it is not UTF-8\n" + SAY),
+    (b"0 HEAD\n1 CHAR Klingon\t2 \n1 NOTE \xe8u\n", "  CHAR says KLINGON 2\n" + SAY),
+    (b"0 HEAD\n1 CHAR ANSI\n1 CHAR ANSEL\n1 NOTE \xe8u\n", "  CHAR says ANSI ANSEL\n" + SAY),
+    (b"0 HEAD\n1 CHAR " + b"X" * 70 + b"\n1 NOTE \xe8u\n", "  CHAR says " + "X" * 59 + "\n" + SAY),
+)
+
 
 def conversions(program, rows):
-    """Of each word of a set and file: how it ended, and what was written."""
+    """Of each word of a set and file: how it ended, what was written, and what was said of it."""
     given = "".join(f"{word} {file.hex()}\n" for word, file in rows).encode()
     lines = run(program, given=given).out.decode().splitlines()
     demand(len(lines) == len(rows), f"{len(rows)} rows, {len(lines)} lines")
-    ends = [line.partition(" ") for line in lines]
-    return [(end, bytes.fromhex(written)) for end, _, written in ends]
+    ends = [line.split(" ") for line in lines]
+    return [(end, bytes.fromhex(written), bytes.fromhex(said)) for end, written, said in ends]
 
 
 def converted(program, wanted):
     """Files with the set and the text that each comes to."""
     ends = conversions(program, [(word, file) for word, file, _, _ in wanted])
-    for (word, file, name, text), (end, got) in zip(wanted, ends):
+    for (word, file, name, text), (end, got, _) in zip(wanted, ends):
         demand(end == name, f"{word}, {file[:80]!r}: {end} and not {name}")
         demand(got == text, f"{word}, {file[:80]!r}: {difference(text, got)}")
 
@@ -151,7 +204,7 @@ def stray_bytes(program):
 
 def heads(program):
     ends = conversions(program, [("-", file) for file, _ in HEADS])
-    for (file, name), (end, got) in zip(HEADS, ends):
+    for (file, name), (end, got, _) in zip(HEADS, ends):
         demand(end == name, f"{file!r}: {end} and not {name}")
         demand(not (end.startswith("29") and got), f"{file!r}: {got!r} was written")
 
@@ -172,6 +225,61 @@ def chars(program):
     converted(program, [("-", file, "utf-8", text) for file, text in wanted])
 
 
+def said(program, wanted):
+    """Files with the set that is asked for, and what is said of each."""
+    ends = conversions(program, [(word, file) for word, file, _ in wanted])
+    for (word, file, text), (end, _, got) in zip(wanted, ends):
+        demand(got == text.encode(), f"{word}, {file[:80]!r}, {end}: {difference(text.encode(), got)}")
+
+
+def reports(program):
+    said(program, REPORTS)
+
+
+def long_reports(program):
+    """Of seven lines the first five are named, and all are counted, the last too; a line is cut at 60 characters."""
+    lines = [b"1 NOTE " + b"\xfc" * n + b"\x9d" + b"x" * 60 for n in range(1, 8)]
+    texts = [("1 NOTE " + "\u00fc" * n + "\ufffd" + "x" * 60)[:60] for n in range(1, 6)]
+    shown = "".join(f"  {n}: {text}\n" for n, text in enumerate(texts, 3))
+    named = ", line 3, line 4, line 5, line 6, line 7\n"
+    file = b"0 HEAD\n1 CHAR UTF-8\n" + b"\n".join(lines)
+    said(program, [("-", file, f"read as UTF-8: CHAR says so\n{OTHERS}7\n{shown}{STRAYS}35{named}{LOST}7{named}")])
+
+
+def reports_of_bytes(program):
+    """Each byte above 7F in a line of its own: the lines, and what the set has not, are what Python's codecs say."""
+    wanted = []
+    for word, codec, _ in CODECS:
+        texts = ["1 NOTE " + bytes([byte]).decode(codec, "replace") for byte in range(0x80, 0x100)]
+        lost = [number for number, text in enumerate(texts, 3) if "\ufffd" in text]
+        shown = "".join(f"  {number}: {text}\n" for number, text in enumerate(texts[:5], 3))
+        report = f"{OTHERS}128\n{shown}"
+        if lost:
+            report += f"{LOST}{len(lost)}" + "".join(f", line {number}" for number in lost[:5]) + "\n"
+        name = {"1252": "Windows-1252", "macintosh": "MacRoman"}.get(word, f"code page {word}")
+        file = b"0 HEAD\n1 CHAR UTF-8\n" + b"".join(b"1 NOTE " + bytes([b]) + b"\n" for b in range(0x80, 0x100))
+        char = "CHAR says UTF-8\n"
+        wanted.append((word, file, f"read as {name}: --from says so\n{char}{report}"))
+    said(program, wanted)
+
+
+def hidden_controls(program):
+    """Control characters are shown as spaces: those of ASCII, and U+0080 to U+009F."""
+    file = b"0 HEAD\n1 CHAR UTF-8\n1 NOTE \x1b[1m\x7f \xc2\x9b1m \xc2\xa9\n"
+    text = f"read as UTF-8: all of it is UTF-8\n{OTHERS}1\n  3: 1 NOTE  [1m  \u00a01m \u00a9\n"
+    said(program, [("-", file, text)])
+
+
+def hints(program):
+    """What leaves the set open; of code pages 437 and 850 the line in both readings, from near the first difference."""
+    wanted = [("-", file, text) for file, text in HINTS]
+    value = b"x" * 80 + b"\xa9" + b"y" * 80
+    shown = [("x" * 30 + value[80:].decode(codec))[:60] for codec in ("cp437", "cp850")]
+    text = f"  --from 437 reads: {shown[0]}\n  --from 850 reads: {shown[1]}\n"
+    wanted.append(("-", b"0 HEAD\n1 CHAR IBMPC\n1 NOTE \x81\n1 NOTE " + value + b"\n", text))
+    said(program, wanted)
+
+
 def cases(tools: Tools):
     if not tools.conversions:
         return
@@ -184,5 +292,10 @@ def cases(tools: Tools):
         ("a conversion: a byte that is no UTF-8 is one of Windows-1252", stray_bytes),
         ("a conversion: the set is known, or a line leaves it open and nothing is written", heads),
         ("a conversion: CHAR says UTF-8, and the ends are cut", chars),
+        ("a conversion: the set, what said so, and each kind of change are reported", reports),
+        ("a conversion: all lines are counted, and the first five are named", long_reports),
+        ("a conversion: the lines of a report are read as they are written", reports_of_bytes),
+        ("a conversion: control characters are shown as spaces", hidden_controls),
+        ("a conversion: a set that is not known has a hint", hints),
     ):
         yield Case(name, lambda test=test: test(tools.conversions))

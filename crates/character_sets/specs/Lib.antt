@@ -4,3 +4,4 @@ pub mod Utf8
 pub mod Sets
 pub mod Cuts
 pub mod Again
+pub mod Counts

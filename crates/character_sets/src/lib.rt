@@ -13,6 +13,7 @@
 
 mod ansel;
 mod code_pages;
+mod counts;
 mod cuts;
 pub mod laws;
 mod set;
@@ -22,6 +23,7 @@ mod units;
 mod utf8;
 
 pub use code_pages::is_read_alike;
+pub use counts::{marked_others, stray_bytes};
 pub use cuts::cut_units;
 pub use set::CharacterSet;
 pub use texts::push_text;

@@ -1,11 +1,12 @@
 //! Converts the file of each line of standard input. A line has the word of a set, or `-`, and the bytes of the file in
-//! hexadecimal digits; it is answered by the set in which the file was read, and what was written, in such digits, or
-//! by why it was not. A tool of tests, no part of the product.
+//! hexadecimal digits; it is answered by the set in which the file was read, what was written and what was reported, in
+//! such digits, or by why it was not, with the hint. A tool of tests, no part of the product.
 #![tactic(auto)]
 
 use character_sets::CharacterSet;
+use conversion_reports::{Unconverted, convert_aloud};
 use devices::Counted;
-use file_conversion::{ConversionError, convert};
+use file_conversion::ConversionError;
 use std::alloc::Global;
 use std::io::{self, BufRead, BufReader, BufWriter, ErrorKind, Write};
 
@@ -29,22 +30,42 @@ fn answer_line(alloc: Global, line: &str) -> io::Result<String> {
         Err(_) => return Err(io::Error::from(ErrorKind::InvalidData)),
     };
     let mut text: Vec<u8> = Vec::new(alloc);
-    let mut reader = Counted::new(file.as_slice());
-    let mut writer = Counted::new(&mut text);
-    let end = convert(alloc, asked, &mut reader, &mut writer);
-    let mut answer = end_of(alloc, end)?;
+    let mut said: Vec<u8> = Vec::new(alloc);
+    let end = converted(alloc, asked, &file, &mut text, &mut said);
+    let mut answer = match end {
+        Ok(set) => String::from_str(alloc, word_of(set))?,
+        Err(fault) => {
+            said.extend_from_slice(&fault.hint)?;
+            word_of_error(alloc, fault.error)?
+        }
+    };
     answer.push_str(" ")?;
     answer.push_str(hex::encode(alloc, &text)?.as_str())?;
+    answer.push_str(" ")?;
+    answer.push_str(hex::encode(alloc, &said)?.as_str())?;
     Ok(answer)
 }
 
-/// The set, or why there is none.
-fn end_of(alloc: Global, end: Result<CharacterSet, ConversionError>) -> io::Result<String> {
-    let text = match end {
-        Ok(set) => String::from_str(alloc, word_of(set))?,
-        Err(ConversionError::UnknownSet(line)) => format!(in alloc; "29:{line}")?,
-        Err(ConversionError::TooLarge) => String::from_str(alloc, "27")?,
-        Err(_) => return Err(io::Error::from(ErrorKind::OutOfMemory)),
+/// Converts a file; what is written, and what is reported, goes to the ends of these.
+fn converted(
+    alloc: Global,
+    asked: Option<CharacterSet>,
+    file: &[u8],
+    text: &mut Vec<u8>,
+    said: &mut Vec<u8>,
+) -> Result<CharacterSet, Unconverted> {
+    let mut reader = Counted::new(file);
+    let mut writer = Counted::new(text);
+    let mut faults = Counted::new(said);
+    convert_aloud(alloc, asked, &mut reader, &mut writer, &mut faults)
+}
+
+/// Why there is no set.
+fn word_of_error(alloc: Global, error: ConversionError) -> io::Result<String> {
+    let text = match error {
+        ConversionError::UnknownSet(line) => format!(in alloc; "29:{line}")?,
+        ConversionError::TooLarge => String::from_str(alloc, "27")?,
+        _ => return Err(io::Error::from(ErrorKind::OutOfMemory)),
     };
     Ok(text)
 }

@@ -34,6 +34,9 @@ use Rattle.character_sets.specs.CodePages.{is_alike}
 use Rattle.character_sets.specs.Sets.{characters, units_of}
 use Rattle.character_sets.specs.Utf8.{has_no_stray}
 use Rattle.file_conversion.specs.declared.charsets.NamedSet.{NamedSet}
+use Rattle.file_conversion.specs.declared.deciding.Reason.{Reason}
+use Rattle.file_conversion.specs.declared.deciding.Reason.TheVariants.{Mark, Nul, Asked, Ascii, Whole, Named}
+use Rattle.file_conversion.specs.declared.units.LeftOut.{LeftOut}
 use Rattle.unit_lines.specs.Lines.{Line, is_blank, lines}
 use Rattle.unit_lines.specs.Moves.{moved}
 use Rattle.file_conversion.specs.Charsets.{named_by, said}
@@ -70,6 +73,13 @@ is_kept unit = not (is_filling unit)
 abbrev pub without_filling : List ℕ → List ℕ
 without_filling units =
     let n = length units - suffix_len is_at_end units in take n units ++ filter is_kept (drop n units)
+
+-- how many units of marks and how many of U+0000 and Ctrl-Z are left out of a file
+abbrev pub left_out : CharacterSet → List ℕ → LeftOut
+left_out set bytes =
+    let all = units_of set bytes in
+    let rest = past_marks set all in
+    record { marks = length all - length rest; filling = length rest - length (without_filling rest) }
 
 -- what the lines of a file in a set are made of
 unfoldable pub file_units : CharacterSet → List ℕ → List ℕ
@@ -137,6 +147,23 @@ by_wide None asked bytes = by_asked asked bytes
 -- the set of a file, where one may be asked for; an error is the number of the line that leaves it open
 unfoldable pub set_of_file : Option CharacterSet → List ℕ → Result CharacterSet ℕ
 set_of_file asked bytes = by_wide (wide_set bytes) asked bytes
+
+-- ---- what says it
+abbrev pub wide_reason : List ℕ → Reason
+wide_reason (a ∷ b ∷ more) = if (a == 0xFF && b == 0xFE) || (a == 0xFE && b == 0xFF) then Mark else Nul
+wide_reason _ = Nul
+
+abbrev pub reason_in : List ℕ → Reason
+reason_in bytes = if list_all is_ascii bytes then Ascii else if has_utf8_mark bytes then Mark
+    else if is_utf8 (file_units Utf8 bytes) then Whole else Named
+
+-- what says the set of a file, where one may be asked for and its set is known
+abbrev pub reason : Option CharacterSet → List ℕ → Reason
+reason asked bytes =
+    elim (wide_set bytes) [
+      | Some set ↦ wide_reason bytes
+      | None ↦ elim asked [ Some set ↦ Asked | None ↦ reason_in bytes ]
+    ]
 
 -- ---- the text
 abbrev pub line_characters : CharacterSet → Line → List ℕ

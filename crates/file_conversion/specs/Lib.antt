@@ -1,3 +1,4 @@
 pub mod Charsets
+pub mod CharLines
 pub mod Conversion
 pub mod Streams

@@ -28,11 +28,11 @@ use unit_lines::{KnownTag, LineHead, line_head, past_white};
 
 /// What the lines CHAR of the first HEAD name.
 #[derive(Clone, Copy, Debug, PartialEq, Eq)]
-pub(crate) struct NamedSet {
+pub struct NamedSet {
     /// The number of the first such line, counted from 1 without blank lines.
-    pub(crate) line: usize,
+    pub line: usize,
     /// `None`: a word that is not known, or words of two sets.
-    pub(crate) set: Option<CharacterSet>,
+    pub set: Option<CharacterSet>,
 }
 
 /// Where a line stands.
@@ -79,7 +79,7 @@ pub(crate) fn next_place(place: Place, head: Option<LineHead>) -> Place
 }
 
 /// Whether a line is a CHAR of the first HEAD.
-fn is_told(place: Place, head: Option<LineHead>) -> bool
+pub(crate) fn is_told(place: Place, head: Option<LineHead>) -> bool
     ensures { result ≡ is_told_of place head }
 {
     match place {
@@ -201,7 +201,7 @@ fn set_in(alloc: Global, body: &[u16]) -> Result<Option<CharacterSet>, AllocErro
 }
 
 /// Units as upper case. U+0000 stands for what is not ASCII.
-fn word_of(alloc: Global, units: &[u16]) -> Result<String, AllocError>
+pub(crate) fn word_of(alloc: Global, units: &[u16]) -> Result<String, AllocError>
     ensures { IfOk result (λ word. string_bytes word ≡ map upper_of units.now) }
 {
     let mut word = String::new(alloc);
@@ -223,7 +223,7 @@ fn upper(unit: u16) -> char
 }
 
 /// Units without spaces and tabs at the ends.
-fn trimmed(units: &[u16]) -> &[u16]
+pub(crate) fn trimmed(units: &[u16]) -> &[u16]
     ensures { result.now ≡ trimmed_of units.now }
 {
     without_end(past_white(units))
@@ -252,7 +252,8 @@ fn is_white(unit: u16) -> bool
     unit == 32 || unit == 9
 }
 
-fn set_number(set: CharacterSet) -> u8
+/// A number for each set, by which two are compared.
+pub fn set_number(set: CharacterSet) -> u8
     ensures { result ≡ set_number_of set }
 {
     match set {

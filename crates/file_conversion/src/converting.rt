@@ -138,7 +138,7 @@ fn push_both(
 }
 
 /// The set of a file, and its text.
-fn text_of_file(
+pub fn text_of_file(
     alloc: Global,
     asked: Option<CharacterSet>,
     bytes: &[u8],
@@ -169,7 +169,10 @@ fn text_in(alloc: Global, set: CharacterSet, bytes: &[u8]) -> Result<String, Con
 }
 
 /// All bytes of a file. `TooLarge`: it has more than 134,217,728.
-fn read_file<R: Read + Device>(alloc: Global, reader: &mut R) -> Result<Vec<u8>, ConversionError>
+pub fn read_file<R: Read + Device>(
+    alloc: Global,
+    reader: &mut R,
+) -> Result<Vec<u8>, ConversionError>
     ensures bytes { IfOk result (λ all. IfSome (R.remaining reader.old) (λ known. known ≡ all.items)) }
     ensures error { IfErr result (NotRead (R.remaining reader.old)
         (Rose (R.failed reader.old) (R.failed reader.new))) }
@@ -187,7 +190,7 @@ fn read_file<R: Read + Device>(alloc: Global, reader: &mut R) -> Result<Vec<u8>,
 }
 
 /// Writes all of a text.
-fn write_text<W: Write + Device>(writer: &mut W, text: &str) -> Result<(), ConversionError>
+pub fn write_text<W: Write + Device>(writer: &mut W, text: &str) -> Result<(), ConversionError>
     ensures ok { OnOk result (Appends (W.contents writer.old) (W.contents writer.new) text.now) }
     ensures begun { OnErr result (AppendsBeginning (W.contents writer.old) (W.contents writer.new) text.now) }
     ensures error { IfErr result (NotWritten (Rose (W.failed writer.old) (W.failed writer.new))) }

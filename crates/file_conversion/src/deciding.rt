@@ -13,7 +13,10 @@ ghost use Rattle.file_conversion.specs.Conversion.{
   is_ascii as is_ascii_of,
   is_utf8 as is_utf8_of,
   next_number as next_number_of,
+  reason as reason_of,
+  reason_in as reason_in_of,
   set_of_file as set_of_file_of,
+  wide_reason as wide_reason_of,
   wide_set as wide_set_of,
 };
 
@@ -38,6 +41,64 @@ pub fn set_of_file(
         (Some(set), _) => Ok(Ok(set)),
         (None, Some(set)) => Ok(Ok(set)),
         (None, None) => by_bytes(alloc, bytes),
+    }
+}
+
+/// What says the set of a file.
+#[derive(Clone, Copy, Debug, PartialEq, Eq)]
+pub enum Reason {
+    /// A mark at the beginning of the file.
+    Mark,
+    /// A NUL as one of its first two bytes.
+    Nul,
+    /// The set was asked for.
+    Asked,
+    /// No byte is above 7F.
+    Ascii,
+    /// All of the file is UTF-8.
+    Whole,
+    /// The lines CHAR.
+    Named,
+}
+
+/// What says the set of a file, where one may be asked for and its set is known.
+pub fn reason_of_set(
+    alloc: Global,
+    asked: Option<CharacterSet>,
+    bytes: &[u8],
+) -> Result<Reason, AllocError>
+    ensures { IfOk result (λ found. found ≡ reason_of asked bytes.now) }
+{
+    match (wide_set(bytes), asked) {
+        (Some(_), _) => Ok(wide_reason(bytes)),
+        (None, Some(_)) => Ok(Reason::Asked),
+        (None, None) => reason_in(alloc, bytes),
+    }
+}
+
+fn wide_reason(bytes: &[u8]) -> Reason
+    ensures { result ≡ wide_reason_of bytes.now }
+{
+    match bytes {
+        [0xFF, 0xFE, ..] | [0xFE, 0xFF, ..] => Reason::Mark,
+        _ => Reason::Nul,
+    }
+}
+
+fn reason_in(alloc: Global, bytes: &[u8]) -> Result<Reason, AllocError>
+    ensures { IfOk result (λ found. found ≡ reason_in_of bytes.now) }
+{
+    if are_ascii(bytes) {
+        return Ok(Reason::Ascii);
+    }
+    if has_utf8_mark(bytes) {
+        return Ok(Reason::Mark);
+    }
+    let units = file_units(alloc, CharacterSet::Utf8, bytes)?;
+    if are_utf8(alloc, &units)? {
+        Ok(Reason::Whole)
+    } else {
+        Ok(Reason::Named)
     }
 }
 
@@ -162,7 +223,7 @@ fn first_unlike(units: &[u16]) -> Option<usize>
 }
 
 /// The number of the line after this one: blank lines are not counted.
-fn next_number(line: usize, body: &[u16]) -> usize
+pub fn next_number(line: usize, body: &[u16]) -> usize
     requires { line < 0xFFFF_FFFF_FFFF_FFFF }
     ensures { result ≡ next_number_of line body.now }
 {

@@ -18,7 +18,7 @@ use std::alloc::{AllocError, Global};
 use unit_lines::{Cut, first_line, is_blank, line_head};
 
 /// What the lines CHAR of a file name, if its first line is a HEAD. `None`: there is no such line.
-pub(crate) fn named_by(alloc: Global, units: &[u16]) -> Result<Option<NamedSet>, AllocError>
+pub fn named_by(alloc: Global, units: &[u16]) -> Result<Option<NamedSet>, AllocError>
     ensures { IfOk result (λ named. named ≡ named_by_of (lines units.now)) }
 {
     let mut rest = units;
@@ -54,11 +54,7 @@ fn after_line(alloc: Global, reading: Reading, body: &[u16]) -> Result<Reading, 
 }
 
 /// The units of a file whose first HEAD says UTF-8; `named` is what it names.
-pub(crate) fn said(
-    alloc: Global,
-    units: &[u16],
-    named: Option<NamedSet>,
-) -> Result<Vec<u16>, AllocError>
+pub fn said(alloc: Global, units: &[u16], named: Option<NamedSet>) -> Result<Vec<u16>, AllocError>
     ensures { IfOk result (λ all. all.items ≡ said_in named Start (lines units.now)) }
 {
     let mut all = Vec::with_capacity(alloc, units.len())?;

@@ -6,6 +6,7 @@ ghost use Rattle.file_conversion.specs.Conversion.{
   file_units as file_units_of,
   is_at_end as is_at_end_of,
   is_kept as is_kept_of,
+  left_out as left_out_of,
   past_marks as past_marks_of,
   past_utf8_marks as past_utf8_of,
   past_wide_marks as past_wide_of,
@@ -17,15 +18,33 @@ use std::alloc::{AllocError, Global};
 
 /// The units of a file in a set, without marks at the beginning, and without U+0000 and Ctrl-Z at the end.
 #[tactic(auto, unfolding(crate::specs::Conversion::file_units))]
-pub(crate) fn file_units(
-    alloc: Global,
-    set: CharacterSet,
-    bytes: &[u8],
-) -> Result<Vec<u16>, AllocError>
+pub fn file_units(alloc: Global, set: CharacterSet, bytes: &[u8]) -> Result<Vec<u16>, AllocError>
     ensures { IfOk result (λ units. units.items ≡ file_units_of set bytes.now) }
 {
     let units = units_of(alloc, set, bytes)?;
     without_filling(alloc, past_marks(set, &units))
+}
+
+/// What of a file is no part of its lines, in units of its set.
+#[derive(Clone, Copy, Debug, PartialEq, Eq)]
+pub struct LeftOut {
+    /// Units of marks at the beginning.
+    pub marks: usize,
+    /// U+0000 and Ctrl-Z at the end.
+    pub filling: usize,
+}
+
+/// How many units of a file are left out, by where they stand.
+pub fn left_out(alloc: Global, set: CharacterSet, bytes: &[u8]) -> Result<LeftOut, AllocError>
+    ensures { IfOk result (λ found. found ≡ left_out_of set bytes.now) }
+{
+    let all = units_of(alloc, set, bytes)?;
+    let rest = past_marks(set, &all);
+    let kept = without_filling(alloc, rest)?;
+    Ok(LeftOut {
+        marks: all.len().saturating_sub(rest.len()),
+        filling: rest.len().saturating_sub(kept.len()),
+    })
 }
 
 fn past_marks(set: CharacterSet, units: &[u16]) -> &[u16]

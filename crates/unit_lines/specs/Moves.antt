@@ -81,3 +81,9 @@ moved set carry [] = []
 moved set carry (l ∷ ls) = if is_blank l.body then l ∷ moved set carry ls
     else record { body = kept (cut_at set carry l.body (next_body ls)) (joined carry l.body); ending = l.ending }
     ∷ moved set (last (cut_at set carry l.body (next_body ls)) (joined carry l.body)) ls
+
+-- the units in front of the value of the line after the first of these
+abbrev pub left_over : CharacterSet → List ℕ → List Line → List ℕ
+left_over set carry [] = carry
+left_over set carry (l ∷ ls) =
+    if is_blank l.body then carry else last (cut_at set carry l.body (next_body ls)) (joined carry l.body)

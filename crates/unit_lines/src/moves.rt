@@ -1,6 +1,6 @@
 //! Characters that a line which goes on with another one was cut in.
 
-ghost use Rattle.std.specs.Prelude.{◌≡◌, ◌<◌, ◌≤◌, ◌++◌, ◌∷◌, IfOk, IfSome, length};
+ghost use Rattle.std.specs.Prelude.{◌≡◌, ◌<◌, ◌≤◌, ◌++◌, ◌∷◌, IfOk, IfSome, drop, length};
 ghost use Rattle.character_sets.specs.Cuts.{cut_units};
 ghost use Rattle.unit_lines.specs.Lines.{lines};
 ghost use Rattle.unit_lines.specs.Moves.{
@@ -12,6 +12,7 @@ ghost use Rattle.unit_lines.specs.Moves.{
   joined as joined_of,
   kept,
   last,
+  left_over,
   moved,
   next_body as next_of,
 };
@@ -161,6 +162,8 @@ pub fn moved_line(
     requires { 0 < length units.now }
     ensures line { IfOk result (λ m. moved set carry.items (lines units.now)
         ≡ record { body = m.body.items; ending = m.ending.now } ∷ moved set m.carry.items (lines m.rest.now)) }
+    ensures carry { IfOk result (λ m. m.carry.items ≡ left_over set carry.items (lines units.now)) }
+    ensures rest { IfOk result (λ m. lines m.rest.now ≡ drop 1 (lines units.now)) }
     ensures shorter { IfOk result (λ m. length m.rest.now < length units.now) }
 {
     let cut = first_line(units);

@@ -1,0 +1,4 @@
+pub mod Counting
+pub mod Pieces
+pub mod Readings
+pub mod Refusals

@@ -1,0 +1,4 @@
+pub mod Lines
+pub mod Report
+pub mod Hints
+pub mod Streams
