@@ -26,7 +26,7 @@ pub enum Kind {
 }
 
 /// Which records are wanted.
-#[derive(Drop)]
+#[derive(Debug, Drop)]
 pub struct Wanted {
     /// Those of a kind. `None`: of each.
     pub kind: Option<Kind>,

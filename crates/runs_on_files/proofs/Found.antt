@@ -17,6 +17,7 @@ use Rattle.archive_core.specs.Machine.{Done, Runs, import_of}
 use Rattle.archive_core.specs.declared.request.Request.{Request}
 use Rattle.archive_exports.specs.Exporting.{export_text}
 use Rattle.archive_exports.specs.Reading.{OnOpen}
+use Rattle.archive_lists.specs.Texts.{list_text, shown_text}
 use Rattle.archive_state.specs.Content.{Content}
 use Rattle.batch_reading.specs.Batches.{ReadsBatch}
 use Rattle.batch_reading.specs.Input.{AreFirstRows, AreRows, row_bytes}
@@ -41,6 +42,7 @@ use Rattle.store.specs.Histories.{Outcome as Answered, in_doubt}
 use Rattle.store.specs.Lives.{Counts, IsRefusedOver}
 use Rattle.store.specs.declared.archive.Archive.{Archive}
 use Rattle.store.proofs.Histories.{counted}
+use Rattle.store.proofs.Viewed.{seen_of}
 use Rattle.tables.specs.Answers.{Served}
 use Rattle.tables.specs.Applying.{
   Applied,
@@ -62,6 +64,7 @@ use Rattle.tasks.specs.Ends.{
   IsAudit,
   ListsDays,
   PrintsSheet,
+  PrintsText,
   Publishes,
 }
 use Rattle.tasks.specs.Moments.{Moment, Streams, at}
@@ -136,6 +139,8 @@ module _ {R W F : Type 0} (reader : read.Ghosts R) (reads : device.Ghosts R) (wr
   acts_none (task.Library today) c none never = refl
   acts_none task.Audit c none never = refl
   acts_none (task.Days first last words) c none never = refl
+  acts_none (task.List wanted after limit) c none never = refl
+  acts_none (task.Show numbers) c none never = refl
 
   pub keeps_none : (t : Task) (society : List ℕ) (c : Content) (left : Trees) → Acts c (Some t) (run t) []
       → HoldsArchive society c left → FoundIn t society c left
@@ -443,6 +448,14 @@ module _ {R W F : Type 0} (reader : read.Ghosts R) (reads : device.Ghosts R) (wr
         | inr cut ↦ (only_read _ cut.1).1
       ]
 
+      text_printed : (text : Content → Option (List ℕ)) (r : Plain)
+          → PrintsText over_files reader reads writer writes faulter fails Before After text r
+          → IsArchive society c left
+      text_printed text r did =
+          let read = did.ended clean in
+          let had_it = (held.has read.0 society c tables holds had).0 in
+          (had_it.0, (read.1 had_it.0 c had_it.1 (seen_of had_it.2)).1 left may, had_it.2)
+
       -- ---- each task
       pub found_by : ArePerformed g → FileComesBack → (t : Task) (o : Outcome) (shown : Option Content)
           → Does over_files reader reads writer writes faulter fails Before After t o shown
@@ -468,3 +481,9 @@ module _ {R W F : Type 0} (reader : read.Ghosts R) (reads : device.Ghosts R) (wr
       found_by law back (task.Days first last words) o shown did finishes =
           keeps_none (task.Days first last words) society c left refl
           (inl (days_listed first last words did.0.0 did.0.2))
+      found_by law back (task.List wanted after limit) o shown did finishes =
+          keeps_none (task.List wanted after limit) society c left refl
+          (inl (text_printed (λ k. Some (list_text wanted after limit k)) did.0.0 did.0.2))
+      found_by law back (task.Show numbers) o shown did finishes =
+          keeps_none (task.Show numbers) society c left refl
+          (inl (text_printed (λ k. shown_text k numbers.items) did.0.0 did.0.2))

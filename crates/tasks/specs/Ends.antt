@@ -13,6 +13,7 @@ use Rattle.std.specs.Prelude.{
   List,
   Option,
   None,
+  Some,
   Result,
   Ok,
   Err,
@@ -29,6 +30,8 @@ use Rattle.sqlite_trees.specs.declared.store.Store.{Ghosts}
 use Rattle.archive_audits.specs.Judging.{Audit, Judges, Tells, without_fault}
 use Rattle.archive_exports.specs.Exporting.{IsPart, export_text}
 use Rattle.archive_exports.specs.Reading.{OnOpen, OnlyReads, OnlyReadsAny}
+use Rattle.archive_lists.specs.Ends.{EndsWriting, OnRead}
+use Rattle.archive_lists.specs.Texts.{list_text, shown_text}
 use Rattle.archive_state.specs.Content.{Content}
 use Rattle.archive_view.specs.Looks.{is_failure}
 use Rattle.batch_reading.specs.Input.{row_bytes}
@@ -220,6 +223,15 @@ module _ {S R W F : Type 0} (g : Ghosts S) (reader : read.Ghosts R) (reads : dev
     pub blamed : IfErr r (λ kind. kind ≡ WriteFailed → HasWriteFailed)
     pub looks : LooksAt (has_broken r)
 
+  -- a text of it, whether it is sound or not; or a beginning of that, or none
+  pub record PrintsText (text : Content → Option (List ℕ)) (r : Plain) : Type 0 where
+    pub ended : OnRead (state g a.archive.conn) (state g b.archive.conn)
+        (λ c. EndsWriting r (writer.contents a.output) (writer.contents b.output) (text c))
+    pub unread : IsUntouched r
+    pub blamed : IfErr r (λ kind. kind ≡ WriteFailed → HasWriteFailed)
+    pub stays : OnlyReads g a.archive b.archive
+    pub lost : b.archive.is_lost ≡ has_broken r
+
   -- ---- an audit
   -- the archive is sound, and how many records it has was printed; or it is not, or could not be looked at
   abbrev pub Audits : Outcome → Type 0
@@ -248,6 +260,10 @@ module _ {S R W F : Type 0} (g : Ghosts S) (reader : read.Ghosts R) (reads : dev
   Does task.Audit outcome shown = Audits outcome × IsUnread × (shown ≡ None)
   Does (task.Days first last words) outcome shown = Ended outcome (ListsDays words first last) × IsUnread × IsQuiet
       × (shown ≡ None)
+  Does (task.List wanted after limit) outcome shown =
+      Ended outcome (PrintsText (λ c. Some (list_text wanted after limit c))) × IsUnread × IsQuiet × (shown ≡ None)
+  Does (task.Show numbers) outcome shown = Ended outcome (PrintsText (λ c. shown_text c numbers.items)) × IsUnread
+      × IsQuiet × (shown ≡ None)
 
   -- ---- an archive that was lost before
   -- 81: nothing is read, written, changed or shown

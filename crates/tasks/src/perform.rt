@@ -6,10 +6,11 @@ ghost use Rattle.tasks.specs.Ends.{Does, Ends, MustReopen};
 use crate::auditing::audit_archive;
 use crate::entering::enter_batch;
 use crate::importing::import_file;
-use crate::showing::show_library;
+use crate::libraries::show_library;
 use crate::status::{placeless, plain, status_of};
 use crate::task::Task;
 use archive_exports::write_archive;
+use archive_lists::{write_list, write_shown};
 use day_lists::write_days;
 use devices::Device;
 use record_text::{RefusalKind, RefusalText};
@@ -114,5 +115,14 @@ fn do_task<S: Alter, C: Clock, R: Read + Device, W: Write + Device, F: Write + D
             plain(write_days(alloc, archive, first, last, words, output)),
             None,
         ),
+        Task::List {
+            wanted,
+            after,
+            limit,
+        } => (
+            plain(write_list(alloc, archive, &wanted, after, limit, output)),
+            None,
+        ),
+        Task::Show { numbers } => (plain(write_shown(alloc, archive, &numbers, output)), None),
     }
 }

@@ -1,6 +1,8 @@
-use Rattle.std.proofs.Common.{SFits, refl, rules, w32}
+use Rattle.std.proofs.Common.{ℕ, List, SFits, refl, rules, subst, w32}
 use Rattle.std.proofs.lemmas.Int.{to_z-of_z}
 use Rattle.sqlite.specs.Held.{state}
+use Rattle.archive_lists.specs.Ends.{EndsWriting, OnRead}
+use Rattle.archive_lists.specs.Texts.{shown_text}
 use Rattle.tasks.proofs.Aloud.{says_far}
 use Rattle.tasks.proofs.Blamed.{blamed_by}
 use Rattle.tasks.proofs.Days.{lists_on, prints_on, publishes_on, shelves_on}
@@ -144,6 +146,50 @@ returns-in-Days g c =
         lists_on _ _ _ _ _ _ _ _ _ c.in-Days.words _ c.in-Days.first _ c.in-Days.last c.write_days.result
             (to_z-of_z w32 c.in-Days.first fits_first) (to_z-of_z w32 c.in-Days.last fits_last) did.written did.cut
             did.unread did.writer (record { stays = did.reads; lost = did.lost }),
+      ),
+      refl,
+      refl,
+      refl,
+    )
+
+pub returns-in-List : goal.returns-in-List
+returns-in-List g c =
+    let did = c.write_list.ensures in
+    rw c.in-List.is (
+      (
+        c.write_list.result,
+        c.plain-in-List.ensures,
+        record {
+          ended = did.ended;
+          unread = did.unread;
+          blamed = did.writer;
+          stays = did.reads;
+          lost = did.lost;
+        },
+      ),
+      refl,
+      refl,
+      refl,
+    )
+
+pub returns-in-Show : goal.returns-in-Show
+returns-in-Show g c =
+    let did = c.write_shown.ensures in
+    let ended = subst (λ (ns : List ℕ). OnRead (state g.S.Store c.args.archive.now.conn)
+    (state g.S.Store c.write_shown.new.archive.conn) (λ k. EndsWriting c.write_shown.result
+    (g.W.Write.contents c.args.output.now) (g.W.Write.contents c.write_shown.new.writer) (shown_text k ns)))
+    c.deref.ensures.value did.ended in
+    rw c.in-Show.is (
+      (
+        c.write_shown.result,
+        c.plain-in-Show.ensures,
+        record {
+          ended = ended;
+          unread = did.unread;
+          blamed = did.writer;
+          stays = did.reads;
+          lost = did.lost;
+        },
       ),
       refl,
       refl,

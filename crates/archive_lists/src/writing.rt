@@ -1,0 +1,131 @@
+//! Texts of an archive that is open, written.
+
+ghost use Rattle.std.specs.Prelude.{◌≡◌, ◌⊎◌, ℕ, List, Option, Some, false, true, IfErr, option_map, string_bytes};
+ghost use Rattle.std.specs.Io.KnownBytes.{Keeps};
+ghost use Rattle.sqlite.specs.Held.{state};
+ghost use Rattle.archive_exports.specs.Reading.{OnlyReads};
+ghost use Rattle.archive_view.specs.Looks.{Looked, is_failure, is_stop};
+ghost use Rattle.devices.specs.Devices.{Rose};
+ghost use Rattle.record_text.specs.declared.refusal.RefusalKind.TheVariants.{BadStored, OutOfMemory, WriteFailed};
+ghost use Rattle.store.specs.Histories.{has_broken};
+ghost use Rattle.archive_lists.specs.Ends.{EndsWriting, OnRead};
+ghost use Rattle.archive_lists.specs.Texts as texts;
+
+use crate::lines::list_text;
+use crate::whole::shown_text;
+use archive_exports::write_text;
+use devices::Device;
+use finding::Wanted;
+use record_text::RefusalKind;
+use sqlite::Alter;
+use std::alloc::Global;
+use std::io::Write;
+use store::Archive;
+use store::laws::looks_are_a_call;
+
+/// Writes the lines of the first so many records after a number that are wanted, by number. Where there are as many as
+/// were asked for, there may be more after the last of them. The archive is not changed; an import that is open stays
+/// open, and nothing of it is written.
+///
+/// 80: the database failed, and the archive has to be opened again. 40: somebody else has spoilt what is stored. At
+/// these nothing is written. 95: the output failed. 1: memory was refused. At these a beginning of the text may have
+/// been written.
+pub fn write_list<S: Alter, W: Write + Device>(
+    alloc: Global,
+    archive: &mut Archive<S>,
+    wanted: &Wanted,
+    after: u32,
+    limit: usize,
+    writer: &mut W,
+) -> Result<(), RefusalKind>
+    requires kept { archive.old.is_lost ≡ false }
+    ensures ended { OnRead (state S.Store archive.old.conn) (state S.Store archive.new.conn)
+        (λ c. EndsWriting result (W.contents writer.old) (W.contents writer.new)
+        (Some (texts.list_text wanted.now after limit c))) }
+    ensures unread { IfErr result
+        (λ kind. is_failure kind ≡ true → Keeps (W.contents writer.old) (W.contents writer.new)) }
+    ensures writer { IfErr result (λ kind. kind ≡ WriteFailed → Rose (W.failed writer.old) (W.failed writer.new)) }
+    ensures lost { archive.new.is_lost ≡ has_broken result }
+    ensures reads { OnlyReads S.Store archive.old archive.new }
+{
+    looks_are_a_call::<S>();
+    let import = archive.set_aside();
+    let text = list_text(alloc, archive, wanted, after, limit);
+    archive.put_back(import);
+    write_found(archive.is_lost(), text, writer)
+}
+
+/// Writes the records of these numbers, each whole, with a blank line between two. The archive is not changed; an
+/// import that is open stays open, and nothing of it is written.
+///
+/// 50: one of the numbers is of no record. 80: the database failed, and the archive has to be opened again. 40:
+/// somebody else has spoilt what is stored. At these nothing is written. 95: the output failed. 1: memory was refused.
+/// At these a beginning of the text may have been written.
+pub fn write_shown<S: Alter, W: Write + Device>(
+    alloc: Global,
+    archive: &mut Archive<S>,
+    numbers: &[u32],
+    writer: &mut W,
+) -> Result<(), RefusalKind>
+    requires kept { archive.old.is_lost ≡ false }
+    ensures ended { OnRead (state S.Store archive.old.conn) (state S.Store archive.new.conn)
+        (λ c. EndsWriting result (W.contents writer.old) (W.contents writer.new) (texts.shown_text c numbers.now)) }
+    ensures unread { IfErr result
+        (λ kind. is_failure kind ≡ true → Keeps (W.contents writer.old) (W.contents writer.new)) }
+    ensures writer { IfErr result (λ kind. kind ≡ WriteFailed → Rose (W.failed writer.old) (W.failed writer.new)) }
+    ensures lost { archive.new.is_lost ≡ has_broken result }
+    ensures reads { OnlyReads S.Store archive.old archive.new }
+{
+    looks_are_a_call::<S>();
+    let import = archive.set_aside();
+    let text = shown_text(alloc, archive, numbers);
+    archive.put_back(import);
+    write_found(archive.is_lost(), text, writer)
+}
+
+/// Writes what looks have found, unless they lost the archive: then it is 80. 50: there is no text.
+fn write_found<W: Write + Device>(
+    is_lost: bool,
+    found: Result<Option<String>, RefusalKind>,
+    writer: &mut W,
+) -> Result<(), RefusalKind>
+    ensures ended { (right : Option (List ℕ)) → (is_lost ≡ false → IfErr found (λ kind. is_failure kind ≡ false))
+        → Looked found (λ text. option_map string_bytes text ≡ right)
+        → EndsWriting result (W.contents writer.old) (W.contents writer.new) right }
+    ensures unread { IfErr result
+        (λ kind. is_failure kind ≡ true → Keeps (W.contents writer.old) (W.contents writer.new)) }
+    ensures writer { IfErr result (λ kind. kind ≡ WriteFailed → Rose (W.failed writer.old) (W.failed writer.new)) }
+    ensures lost { has_broken result ≡ is_lost }
+{
+    if is_lost {
+        return Err(RefusalKind::Storage);
+    }
+    match found {
+        Ok(text) => write_some(&text, writer),
+        Err(kind) => Err(kept_refusal(kind)),
+    }
+}
+
+/// Writes a text. 50: there is none.
+fn write_some<W: Write + Device>(text: &Option<String>, writer: &mut W) -> Result<(), RefusalKind>
+    ensures ended { EndsWriting result (W.contents writer.old) (W.contents writer.new)
+        (option_map string_bytes text.now) }
+    ensures unread { IfErr result (λ kind. is_failure kind ≡ false) }
+    ensures writer { IfErr result (λ kind. kind ≡ WriteFailed → Rose (W.failed writer.old) (W.failed writer.new)) }
+{
+    match text {
+        Some(text) => write_text(text.as_str(), writer),
+        None => Err(RefusalKind::NoSuch),
+    }
+}
+
+/// What looks that did not lose the archive are refused with: 1 or 40.
+fn kept_refusal(kind: RefusalKind) -> RefusalKind
+    ensures want { is_stop kind ≡ true → is_failure kind ≡ false → result ≡ OutOfMemory }
+    ensures either { (result ≡ OutOfMemory) ⊎ (result ≡ BadStored) }
+{
+    match kind {
+        RefusalKind::OutOfMemory => RefusalKind::OutOfMemory,
+        _ => RefusalKind::BadStored,
+    }
+}
