@@ -23,6 +23,7 @@ sys.dont_write_bytecode = True
 import archives  # noqa: E402
 import audits  # noqa: E402
 import conversions  # noqa: E402
+import converted  # noqa: E402
 import days  # noqa: E402
 import devices  # noqa: E402
 import documents  # noqa: E402
@@ -33,6 +34,7 @@ import files  # noqa: E402
 import imports  # noqa: E402
 import layout  # noqa: E402
 import leaks  # noqa: E402
+import lists  # noqa: E402
 import memory  # noqa: E402
 import merges  # noqa: E402
 import properties  # noqa: E402
@@ -67,6 +69,7 @@ PARTS = (
     audits,
     unsound,
     days,
+    lists,
     earlier,
     merges,
     exports,
@@ -78,6 +81,7 @@ PARTS = (
     untouched,
     visits,
     conversions,
+    converted,
     scripts,
     releases,
     documents,

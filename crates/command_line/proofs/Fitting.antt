@@ -16,17 +16,31 @@ use Rattle.std.proofs.Common.{
   ap,
   codes,
   is_some,
+  ℕ,
   option_map,
   refl,
   subst,
   sym,
 }
+use Rattle.std.specs.Option.{option_map_or}
 use Rattle.std.specs.Prelude.{IfOk, IfSome, IsSome, if◌then◌else◌, not, unwrap_or}
 use Rattle.clap.specs.Words.{Row, Text, fault_of, subcommand_of}
-use Rattle.command_line.specs.Asking.{Asks, HasWords, IsTaken, command_named, is_fit, name_of}
+use Rattle.command_line.specs.Asking.{
+  Asks,
+  HasWords,
+  IsMeant,
+  IsTaken,
+  command_named,
+  is_fit,
+  is_listed,
+  is_meant,
+  name_of,
+}
+use Rattle.command_line.specs.Meanings.{records_named, set_named}
 use Rattle.command_line.specs.Commands.{program}
 use Rattle.command_line.specs.declared.tasks.Asked.{Asked}
 use Rattle.command_line.specs.declared.tasks.Asked.TheVariants as asked
+use Rattle.command_line.specs.declared.tasks.RecordKind.{RecordKind}
 use Rattle.command_line.specs.declared.tasks.Refused.{Refused}
 
 at_name : (found : Option (Text × List Row)) (n : Text) → option_map (λ f. f.0) found ≡ Some n
@@ -58,12 +72,27 @@ none_there : {A B : Type 0} (b : Bool) (o : Option A) (p : Option B) → b ≡ f
     → (if b then is_some o else not (is_some p)) ≡ true
 none_there b o p is e = rw (is, e) refl
 
+meant_there : {A : Type 0} (meaning : Text → Option A) (word : Option Text) (value : Option A)
+    → IsMeant meaning word value → is_meant meaning word ≡ true
+meant_there meaning None value e = refl
+meant_there meaning (Some w) None e = absurd cc
+meant_there {A} meaning (Some w) (Some v) e = ap (λ (o : Option (Option A)). option_map_or is_some o true) e
+
+both_true : (a b : Bool) → a ≡ true → b ≡ true → (a && b) ≡ true
+both_true a b e f = rw (e, f) refl
+
+list_there : (o : Option RecordKind) (kind : RecordKind) (source given : Option ℕ) → o ≡ Some kind → source ≡ given
+    → is_listed kind source ≡ true → option_map_or (λ k. is_listed k given) o false ≡ true
+list_there o kind source given e is listed = rw e (subst (λ (s : Option ℕ). is_listed kind s ≡ true) is listed)
+
 -- what is asked for fits the command that it has the name and the words of
 fit_of : (a : Asked) (found : Option (Text × List Row))
     → IfSome (name_of a) (λ n. option_map (λ f. f.0) found ≡ Some n) → HasWords found a → IsSome (name_of a)
     → is_fit found ≡ true
 fit_of asked.Norm found e has some = fit_by asked.Norm found (codes "norm") e has (λ rows words. refl)
 fit_of asked.Check found e has some = fit_by asked.Check found (codes "check") e has (λ rows words. refl)
+fit_of (asked.Convert from) found e has some =
+    fit_by (asked.Convert from) found (codes "convert") e has (λ rows words. meant_there set_named _ from words)
 fit_of (asked.Init file society) found e has some =
     fit_by (asked.Init file society) found (codes "init") e has (λ rows words. refl)
 fit_of (asked.Apply file) found e has some =
@@ -87,7 +116,15 @@ fit_of (asked.Audit file) found e has some =
 fit_of (asked.Days file first last told) found e has some =
     fit_by (asked.Days file first last told) found (codes "days") e has
     (λ rows words. both_there _ _ first last words.1 words.2)
-fit_of (asked.Show text) found e has some = absurd cc
+fit_of (asked.List file kind source after limit) found e has some =
+    fit_by (asked.List file kind source after limit) found (codes "list") e has
+    (λ rows words. list_there _ kind source _ words.1 words.2 words.3)
+fit_of (asked.Find file names kind limit) found e has some =
+    fit_by (asked.Find file names kind limit) found (codes "find") e has
+    (λ rows words. both_true _ _ words.2 (meant_there records_named _ kind words.3))
+fit_of (asked.Show file numbers) found e has some =
+    fit_by (asked.Show file numbers) found (codes "show") e has (λ rows words. refl)
+fit_of (asked.Text text) found e has some = absurd cc
 
 -- words in which the grammar finds no fault, and that have the name and the words of what is asked for, ask for it
 asks_of : (o : Option Text) (words : List Text) → fault_of program words ≡ []

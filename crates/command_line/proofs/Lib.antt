@@ -1,3 +1,4 @@
 mod Fitting
 mod Numbers
 mod Taken
+mod Telling

@@ -26,7 +26,7 @@ use Rattle.clap.specs.Words.{Text}
 use Rattle.clap.specs.ValueTests.{is_unsigned_in}
 use Rattle.clap.specs.declared.builder.value_parser.ValueParser.TheVariants as vp
 use Rattle.clap.proofs.ValueTestLemmas.{Accepts-accepts, accepts-Accepts}
-use Rattle.command_line.specs.Asking.{number_up_to}
+use Rattle.command_line.specs.Meanings.{number_up_to}
 
 refused : (b : Bool) (v : ℕ) → (b ≡ true → ⊥) → 0 ≡ (if b then v else 0)
 refused true v none = absurd (none refl)

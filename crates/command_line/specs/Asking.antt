@@ -20,7 +20,8 @@ use Rattle.std.specs.Prelude.{
   false,
   codes,
   is_some,
-  nat_le,
+  flat_map,
+  map,
   not,
   option_and_then,
   option_map,
@@ -28,35 +29,48 @@ use Rattle.std.specs.Prelude.{
   if◌then◌else◌,
 }
 use Rattle.std.specs.Int.{IsInRange}
-use Rattle.std.specs.List.{list_any}
+use Rattle.std.specs.List.{list_all, list_any}
 use Rattle.std.specs.Option.{option_map_or}
 use Rattle.std.specs.Str.{bytes_eq}
-use Rattle.std.specs.Str.Parse.{digits_value, without_leading_plus}
-use Rattle.clap.specs.Words.{Row, Text, fault_of, first_of, subcommand_of}
+use Rattle.clap.specs.Words.{Row, Text, all_of, fault_of, first_of, subcommand_of}
 use Rattle.clap.specs.Kinds.{IsAmong}
-use Rattle.clap.specs.ValueTests.{is_unsigned_in}
 use Rattle.clap.specs.declared.error.kind.ErrorKind.TheVariants.{DisplayHelp, DisplayVersion}
 use Rattle.command_line.specs.Commands.{program}
 use Rattle.command_line.specs.Days.{day_read}
+use Rattle.command_line.specs.Meanings.{
+  generations_of,
+  is_searched,
+  kind_named,
+  number_of,
+  number_up_to,
+  records_named,
+  search_words,
+  set_named,
+}
 use Rattle.command_line.specs.declared.tasks.Asked.{Asked}
 use Rattle.command_line.specs.declared.tasks.Asked.TheVariants.{
   Apply,
   Audit,
   Check,
+  Convert,
   Days,
-  Entries,
+  Entries as EntriesAsked,
   Export,
   ExportPublic,
+  Find,
   Import,
   Init,
+  List as ListAsked,
   Norm,
   Serve,
   Sheet,
+  Show,
 }
+use Rattle.command_line.specs.declared.tasks.RecordKind.{RecordKind}
+use Rattle.command_line.specs.declared.tasks.RecordKind.TheVariants.{Entries}
 use Rattle.command_line.specs.declared.tasks.Refused.{Refused}
 use Rattle.command_line.specs.declared.tasks.Refused.TheVariants.{OutOfMemory}
 use Rattle.command_line.specs.declared.tasks.SheetKind.{SheetKind}
-use Rattle.command_line.specs.declared.tasks.SheetKind.TheVariants.{Family, Pedigree, Person, Register}
 
 -- the command that words name, the program's name being the first
 abbrev pub command_named : List Text → Option Text
@@ -66,9 +80,10 @@ command_named words = option_map (λ found. found.0) (subcommand_of program word
 abbrev pub name_of : Asked → Option Text
 name_of Norm = Some (codes "norm")
 name_of Check = Some (codes "check")
+name_of (Convert from) = Some (codes "convert")
 name_of (Init file society) = Some (codes "init")
 name_of (Apply file) = Some (codes "apply")
-name_of (Entries file source token) = Some (codes "entries")
+name_of (EntriesAsked file source token) = Some (codes "entries")
 name_of (Import file token progress) = Some (codes "import")
 name_of (Export file) = Some (codes "export")
 name_of (ExportPublic file today) = Some (codes "export")
@@ -76,6 +91,9 @@ name_of (Sheet file kind number generations today) = Some (codes "sheet")
 name_of (Serve file port count today) = Some (codes "serve")
 name_of (Audit file) = Some (codes "audit")
 name_of (Days file first last words) = Some (codes "days")
+name_of (ListAsked file kind source after limit) = Some (codes "list")
+name_of (Find file words kind limit) = Some (codes "find")
+name_of (Show file numbers) = Some (codes "show")
 name_of _ = None
 
 -- ---- the words that a command is given
@@ -88,18 +106,13 @@ given_in found id = option_and_then (λ f. first_of id f.1) found
 abbrev pub word_in : Option (Text × List Row) → Text → Text
 word_in found id = unwrap_or (given_in found id) []
 
--- the number of a word, as the grammar reads one: digits, with a plus before them or not; 0 where it is none, or is
--- above the greatest
-abbrev pub number_up_to : ℕ → Text → ℕ
-number_up_to most word = if is_unsigned_in 0 most word then digits_value 10 (without_leading_plus word) else 0
+-- the words that it is given for its last word
+abbrev pub words_in : Option (Text × List Row) → Text → List Text
+words_in found id = unwrap_or (option_and_then (λ f. all_of id f.1) found) []
 
--- the same of 32 bits
-abbrev pub number_of : Text → ℕ
-number_of word = number_up_to 4294967295 word
-
--- the generations of a pedigree that a word tells: 4 where it is no number from 1 to 12
-abbrev pub generations_of : Text → ℕ
-generations_of word = let n = number_of word in if nat_le 1 n && nat_le n 12 then n else 4
+-- the number of an option, if it is given one
+abbrev pub number_given : Option (Text × List Row) → Text → Option ℕ
+number_given found id = option_map number_of (given_in found id)
 
 -- the generations that are given; 4 where none are
 abbrev pub generations_in : Option (Text × List Row) → ℕ
@@ -125,31 +138,25 @@ is_public found = is_given found (codes "public")
 abbrev pub is_told : Option (Text × List Row) → Bool
 is_told found = is_given found (codes "progress")
 
--- the word of a kind of sheet
-abbrev pub kind_word : SheetKind → Text
-kind_word Person = codes "person"
-kind_word Family = codes "family"
-kind_word Pedigree = codes "pedigree"
-kind_word Register = codes "register"
+-- an option is given a word of which this is the meaning; or it is not given, and this is none
+abbrev pub IsMeant : {A : Type 0} → (Text → Option A) → Option Text → Option A → Type 0
+IsMeant meaning word value = option_map meaning word ≡ option_map Some value
 
--- the kind of sheet of a word
-abbrev pub kind_named : Text → Option SheetKind
-kind_named word =
-    if bytes_eq word (codes "person") then Some Person
-    else if bytes_eq word (codes "family") then Some Family
-    else if bytes_eq word (codes "pedigree") then Some Pedigree
-    else if bytes_eq word (codes "register") then Some Register
-    else None
+-- a list is one of the entries of a source only where it is one of entries
+abbrev pub is_listed : RecordKind → Option ℕ → Bool
+is_listed Entries source = true
+is_listed kind source = not (is_some source)
 
 abbrev pub kind_in : Option (Text × List Row) → Option SheetKind
 kind_in found = kind_named (word_in found (codes "KIND"))
 
 -- what is asked for has the words that the command is given
 abbrev pub HasWords : Option (Text × List Row) → Asked → Type 0
+HasWords found (Convert from) = IsMeant set_named (given_in found (codes "from")) from
 HasWords found (Init file society) = (file.now ≡ word_in found (codes "FILE"))
     × (society.now ≡ word_in found (codes "society"))
 HasWords found (Apply file) = file.now ≡ word_in found (codes "FILE")
-HasWords found (Entries file source token) =
+HasWords found (EntriesAsked file source token) =
     (file.now ≡ word_in found (codes "FILE")) × (source ≡ number_of (word_in found (codes "source")))
     × (token.now ≡ word_in found (codes "token"))
 HasWords found (Import file token progress) =
@@ -170,6 +177,16 @@ HasWords found (Audit file) = file.now ≡ word_in found (codes "FILE")
 HasWords found (Days file first last words) =
     (file.now ≡ word_in found (codes "FILE")) × (day_given found (codes "from") ≡ Some first)
     × (day_given found (codes "to") ≡ Some last) × (words ≡ is_given found (codes "words"))
+HasWords found (ListAsked file kind source after limit) =
+    (file.now ≡ word_in found (codes "FILE")) × (records_named (word_in found (codes "KIND")) ≡ Some kind)
+    × (source ≡ number_given found (codes "source")) × (is_listed kind source ≡ true)
+    × (after ≡ number_of (word_in found (codes "after"))) × (limit ≡ number_given found (codes "limit"))
+HasWords found (Find file words kind limit) =
+    (file.now ≡ word_in found (codes "FILE")) × (words ≡ flat_map search_words (words_in found (codes "WORD")))
+    × (list_all is_searched (words_in found (codes "WORD")) ≡ true)
+    × IsMeant records_named (given_in found (codes "kind")) kind × (limit ≡ number_given found (codes "limit"))
+HasWords found (Show file numbers) =
+    (file.now ≡ word_in found (codes "FILE")) × (numbers.items ≡ map number_of (words_in found (codes "NO")))
 HasWords found _ = ⊤
 
 -- ---- the words that are taken
@@ -186,7 +203,22 @@ abbrev pub is_export_fit : Option (Text × List Row) → Bool
 is_export_fit found =
     if is_public found then is_some (day_in found) else not (is_some (given_in found (codes "today")))
 
--- beside the grammar: a sheet has a kind and a day, a room has a day
+-- an option that is given has a word with a meaning
+abbrev pub is_meant : {A : Type 0} → (Text → Option A) → Option Text → Bool
+is_meant meaning word = option_map_or (λ w. is_some (meaning w)) word true
+
+-- a list has a kind, and a source only with entries
+abbrev pub is_list_fit : Option (Text × List Row) → Bool
+is_list_fit found = option_map_or (λ kind. is_listed kind (number_given found (codes "source")))
+    (records_named (word_in found (codes "KIND"))) false
+
+-- a search has words that can be searched for, and where a kind is given it is one
+abbrev pub is_search_fit : Option (Text × List Row) → Bool
+is_search_fit found =
+    list_all is_searched (words_in found (codes "WORD")) && is_meant records_named (given_in found (codes "kind"))
+
+-- beside the grammar: a sheet has a kind and a day, a room has a day, a list has a kind, a search has words with
+-- letters or digits, and what is given of a kind or of a character set is one
 abbrev pub is_fit : Option (Text × List Row) → Bool
 is_fit found =
     if is_named found (codes "export") then is_export_fit found
@@ -194,10 +226,13 @@ is_fit found =
     else if is_named found (codes "serve") then is_some (day_in found)
     else if is_named found (codes "days") then is_some (day_given found (codes "from")) && is_some
     (day_given found (codes "to"))
+    else if is_named found (codes "convert") then is_meant set_named (given_in found (codes "from"))
+    else if is_named found (codes "list") then is_list_fit found
+    else if is_named found (codes "find") then is_search_fit found
     else true
 
 -- the words are those of a command, with nothing that it does not take: the grammar has no fault to find in them, and
--- their days and their kind of sheet are some where they have to be
+-- their days, kinds and character set are some where they have to be
 abbrev pub IsTaken : List Text → Type 0
 IsTaken words = (fault_of program words ≡ []) × (is_fit (subcommand_of program words) ≡ true)
 

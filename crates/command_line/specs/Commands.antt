@@ -1,8 +1,9 @@
 -- The commands of the program as `clap` is told of them.
-use Rattle.std.specs.Prelude.{ℕ, [], ◌∷◌, Some, true, codes}
+use Rattle.std.specs.Prelude.{ℕ, List, [], ◌∷◌, Some, true, codes, fold}
+use Rattle.clap.specs.Lexer.{usize_max}
 use Rattle.clap.specs.Words.{App, Rule, Shape, Text, new_rule, with_subcommand}
 use Rattle.clap.specs.Simple.{new_shape}
-use Rattle.clap.specs.declared.builder.action.ArgAction.TheVariants.{Set, SetTrue}
+use Rattle.clap.specs.declared.builder.action.ArgAction.TheVariants.{Append, Set, SetTrue}
 use Rattle.clap.specs.declared.builder.value_parser.ValueParser.TheVariants.{Unsigned}
 
 -- the program without its commands: it has a version, demands a command, and has none called help
@@ -68,6 +69,18 @@ today_rule = needed_rule (codes "today")
 abbrev pub maybe_today_rule : Rule
 maybe_today_rule = option_rule (codes "today")
 
+-- an option that may be left out, and else is a number of those
+abbrev pub maybe_number_rule : Text → ℕ → ℕ → Rule
+maybe_number_rule name least most = record (option_rule name) { parser = Some (Unsigned least most) }
+
+-- the last words, one or more
+abbrev pub last_rule : Text → Rule
+last_rule id = record (new_rule id) {
+  action = Some Append;
+  range = Some (record { start_inclusive = 1; end_inclusive = usize_max });
+  required = true;
+}
+
 -- an option without a value, which may be left out
 abbrev pub flag_rule : Text → Rule
 flag_rule name = record (new_rule name) { long = Some name; action = Some SetTrue }
@@ -82,7 +95,7 @@ progress_rule = flag_rule (codes "progress")
 
 -- `--generations G`, which may be left out
 abbrev pub generations_rule : Rule
-generations_rule = record (option_rule (codes "generations")) { parser = Some (Unsigned 1 12) }
+generations_rule = maybe_number_rule (codes "generations") 1 12
 
 -- `--port P`
 abbrev pub port_rule : Rule
@@ -103,6 +116,42 @@ to_rule = needed_rule (codes "to")
 abbrev pub words_rule : Rule
 words_rule = flag_rule (codes "words")
 
+-- `--from SET`, any word here
+abbrev pub set_rule : Rule
+set_rule = option_rule (codes "from")
+
+-- `--source N`, `--after NUMBER` and `--limit N`, which may be left out
+abbrev pub maybe_source_rule : Rule
+maybe_source_rule = maybe_number_rule (codes "source") 1 4294967295
+
+abbrev pub after_rule : Rule
+after_rule = maybe_number_rule (codes "after") 0 4294967295
+
+abbrev pub limit_rule : Rule
+limit_rule = maybe_number_rule (codes "limit") 1 4294967295
+
+-- `--kind KIND`, any word here
+abbrev pub option_kind_rule : Rule
+option_kind_rule = option_rule (codes "kind")
+
+-- WORD.., the words of a search
+abbrev pub search_rule : Rule
+search_rule = last_rule (codes "WORD")
+
+-- NO.., numbers of records
+abbrev pub records_rule : Rule
+records_rule = record (last_rule (codes "NO")) { parser = Some (Unsigned 1 4294967295) }
+
+-- the commands
+abbrev pub norm_shape : Shape
+norm_shape = new_shape (codes "norm")
+
+abbrev pub check_shape : Shape
+check_shape = new_shape (codes "check")
+
+abbrev pub convert_shape : Shape
+convert_shape = record (new_shape (codes "convert")) { rules = set_rule ∷ [] }
+
 abbrev pub init_shape : Shape
 init_shape = record (new_shape (codes "init")) { rules = file_rule ∷ society_rule ∷ [] }
 
@@ -118,46 +167,37 @@ import_shape = record (new_shape (codes "import")) { rules = file_rule ∷ token
 abbrev pub export_shape : Shape
 export_shape = record (new_shape (codes "export")) { rules = file_rule ∷ public_rule ∷ maybe_today_rule ∷ [] }
 
--- `sheet` without its options
-abbrev pub sheet_words : Shape
-sheet_words = record (new_shape (codes "sheet")) { rules = file_rule ∷ kind_rule ∷ record_rule ∷ [] }
-
 abbrev pub sheet_shape : Shape
-sheet_shape = record sheet_words { rules = file_rule ∷ kind_rule ∷ record_rule ∷ today_rule ∷ generations_rule ∷ [] }
-
--- `serve` without its day
-abbrev pub serve_anyday : Shape
-serve_anyday = record (new_shape (codes "serve")) { rules = file_rule ∷ port_rule ∷ count_rule ∷ [] }
+sheet_shape = record (new_shape (codes "sheet")) {
+  rules = file_rule ∷ kind_rule ∷ record_rule ∷ today_rule ∷ generations_rule ∷ [];
+}
 
 abbrev pub serve_shape : Shape
-serve_shape = record serve_anyday { rules = file_rule ∷ port_rule ∷ count_rule ∷ today_rule ∷ [] }
+serve_shape = record (new_shape (codes "serve")) { rules = file_rule ∷ port_rule ∷ count_rule ∷ today_rule ∷ [] }
 
 abbrev pub audit_shape : Shape
 audit_shape = record (new_shape (codes "audit")) { rules = file_rule ∷ [] }
 
--- `days` without what it prints beside the numbers
-abbrev pub days_numbers : Shape
-days_numbers = record (new_shape (codes "days")) { rules = file_rule ∷ from_rule ∷ to_rule ∷ [] }
-
 abbrev pub days_shape : Shape
-days_shape = record days_numbers { rules = file_rule ∷ from_rule ∷ to_rule ∷ words_rule ∷ [] }
+days_shape = record (new_shape (codes "days")) { rules = file_rule ∷ from_rule ∷ to_rule ∷ words_rule ∷ [] }
 
--- the commands that take no word
-abbrev pub with_streams_alone : App
-with_streams_alone = with_subcommand (with_subcommand bare (new_shape (codes "norm"))) (new_shape (codes "check"))
+abbrev pub list_shape : Shape
+list_shape = record (new_shape (codes "list")) {
+  rules = file_rule ∷ kind_rule ∷ maybe_source_rule ∷ after_rule ∷ limit_rule ∷ [];
+}
 
--- with those that make an archive and enter rows
-abbrev pub with_rows : App
-with_rows = with_subcommand (with_subcommand (with_subcommand with_streams_alone init_shape) apply_shape) entries_shape
+abbrev pub find_shape : Shape
+find_shape = record (new_shape (codes "find")) {
+  rules = file_rule ∷ search_rule ∷ option_kind_rule ∷ limit_rule ∷ [];
+}
 
--- with those that take in and give out a file of lines
-abbrev pub with_files : App
-with_files = with_subcommand (with_subcommand with_rows import_shape) export_shape
+abbrev pub show_shape : Shape
+show_shape = record (new_shape (codes "show")) { rules = file_rule ∷ records_rule ∷ [] }
 
--- with those that show an archive, and the one that judges it
-abbrev pub with_shows : App
-with_shows = with_subcommand (with_subcommand (with_subcommand with_files sheet_shape) serve_shape) audit_shape
+abbrev pub commands : List Shape
+commands = norm_shape ∷ check_shape ∷ convert_shape ∷ init_shape ∷ apply_shape ∷ entries_shape ∷ import_shape
+    ∷ export_shape ∷ sheet_shape ∷ serve_shape ∷ audit_shape ∷ days_shape ∷ list_shape ∷ find_shape ∷ show_shape ∷ []
 
--- the program with its commands: beside these the one that finds by days
+-- the program with its commands
 abbrev pub program : App
-program = with_subcommand with_shows days_shape
+program = fold with_subcommand bare commands

@@ -2,252 +2,264 @@
 
 ghost use Rattle.std.specs.Prelude.{◌≡◌, false};
 ghost use Rattle.clap.specs.Words.{rule_of};
-ghost use Rattle.command_line.specs.Commands.{
-  count_rule,
-  file_rule,
-  from_rule,
-  generations_rule,
-  kind_rule,
-  maybe_today_rule,
-  port_rule,
-  progress_rule,
-  public_rule,
-  record_rule,
-  society_rule,
-  source_rule,
-  to_rule,
-  today_rule,
-  token_rule,
-  words_rule,
-};
+ghost use Rattle.command_line.specs.Described.{rule_described, with_form};
 
 use clap::builder::ValueParser;
 use clap::{Arg, ArgAction};
 use std::alloc::Global;
 
-const FILE_HELP: &str = "The file of the archive";
+/// A word or an option that a command takes.
+pub(crate) struct Word {
+    pub(crate) id: &'static str,
+    pub(crate) help: &'static str,
+    pub(crate) form: Form,
+    /// It has to be there.
+    pub(crate) needed: bool,
+    /// It is a number of those, the least and the greatest among them.
+    pub(crate) numbers: Option<(u64, u64)>,
+}
 
-const SOCIETY_HELP: &str = "The name of the society";
-
-const SOURCE_HELP: &str = "The number of the register's source, 1 to 4294967295";
-
-const TOKEN_HELP: &str = "The token of the request: 1 to 64 characters from `!` to `~`";
-
-const PROGRESS_HELP: &str = "Tell on standard error how many rows are written";
-
-const KIND_HELP: &str = "The kind of sheet: person, family, pedigree or register";
-
-const RECORD_HELP: &str = "The number of the record, 1 to 4294967295";
-
-const TODAY_HELP: &str = "The day of which it is judged what may be shown";
-
-const PUBLIC_HELP: &str = "Only what may be shown on the day of --today";
-
-const GENERATIONS_HELP: &str = "The generations of a pedigree, 1 to 12 [default: 4]";
-
-const PORT_HELP: &str = "The port, 1 to 65535";
-
-const COUNT_HELP: &str = "How many visitors are answered, 0 to 1000000";
-
-const FROM_HELP: &str = "The first of the days";
-
-const TO_HELP: &str = "The last of the days";
-
-const WORDS_HELP: &str = "Tell behind each number what it is, its date and its place";
+/// How a word is given.
+pub(crate) enum Form {
+    /// At its place.
+    Place,
+    /// From its place on, one or more.
+    Places,
+    /// After its name, which is also its id; help calls it so.
+    Named(&'static str),
+    /// By its name, without a value.
+    Flag,
+}
 
 /// The most that the number of a record can be.
 const MOST_NUMBER: u64 = 4_294_967_295;
 
-/// The file of an archive, which has to be named.
-pub(crate) fn file_arg<'a>(alloc: Global) -> Arg<'a>
-    ensures rule { rule_of result ≡ file_rule }
+pub(crate) const FILE: Word = Word {
+    id: "FILE",
+    help: "The file of the archive",
+    form: Form::Place,
+    needed: true,
+    numbers: None,
+};
+
+pub(crate) const SOCIETY: Word = Word {
+    id: "society",
+    help: "The name of the society",
+    form: Form::Named("NAME"),
+    needed: true,
+    numbers: None,
+};
+
+pub(crate) const SOURCE: Word = Word {
+    id: "source",
+    help: "The number of the register's source, 1 to 4294967295",
+    form: Form::Named("N"),
+    needed: true,
+    numbers: Some((1, MOST_NUMBER)),
+};
+
+pub(crate) const TOKEN: Word = Word {
+    id: "token",
+    help: "The token of the request: 1 to 64 characters from `!` to `~`",
+    form: Form::Named("T"),
+    needed: true,
+    numbers: None,
+};
+
+pub(crate) const PROGRESS: Word = Word {
+    id: "progress",
+    help: "Tell on standard error how many rows are written",
+    form: Form::Flag,
+    needed: false,
+    numbers: None,
+};
+
+/// Whether it is a kind of sheet is judged where it is read.
+pub(crate) const SHEET_KIND: Word = Word {
+    id: "KIND",
+    help: "The kind of sheet: person, family, pedigree or register",
+    form: Form::Place,
+    needed: true,
+    numbers: None,
+};
+
+pub(crate) const RECORD: Word = Word {
+    id: "NO",
+    help: "The number of the record, 1 to 4294967295",
+    form: Form::Place,
+    needed: true,
+    numbers: Some((1, MOST_NUMBER)),
+};
+
+/// Whether it is a day is judged where it is read, and so is that of the other options with a day.
+pub(crate) const TODAY: Word = Word {
+    id: "today",
+    help: TODAY_HELP,
+    form: Form::Named("YYYY-MM-DD"),
+    needed: true,
+    numbers: None,
+};
+
+/// The same where it may be left out.
+pub(crate) const MAYBE_TODAY: Word = Word {
+    id: "today",
+    help: TODAY_HELP,
+    form: Form::Named("YYYY-MM-DD"),
+    needed: false,
+    numbers: None,
+};
+
+const TODAY_HELP: &str = "The day of which it is judged what may be shown";
+
+pub(crate) const PUBLIC: Word = Word {
+    id: "public",
+    help: "Only what may be shown on the day of --today",
+    form: Form::Flag,
+    needed: false,
+    numbers: None,
+};
+
+pub(crate) const GENERATIONS: Word = Word {
+    id: "generations",
+    help: "The generations of a pedigree, 1 to 12 [default: 4]",
+    form: Form::Named("G"),
+    needed: false,
+    numbers: Some((1, 12)),
+};
+
+pub(crate) const PORT: Word = Word {
+    id: "port",
+    help: "The port, 1 to 65535",
+    form: Form::Named("P"),
+    needed: true,
+    numbers: Some((1, 65535)),
+};
+
+pub(crate) const COUNT: Word = Word {
+    id: "count",
+    help: "How many visitors are answered, 0 to 1000000",
+    form: Form::Named("N"),
+    needed: true,
+    numbers: Some((0, 1_000_000)),
+};
+
+pub(crate) const FIRST_DAY: Word = Word {
+    id: "from",
+    help: "The first of the days",
+    form: Form::Named("YYYY-MM-DD"),
+    needed: true,
+    numbers: None,
+};
+
+pub(crate) const LAST_DAY: Word = Word {
+    id: "to",
+    help: "The last of the days",
+    form: Form::Named("YYYY-MM-DD"),
+    needed: true,
+    numbers: None,
+};
+
+pub(crate) const WORDS: Word = Word {
+    id: "words",
+    help: "Tell behind each number what it is, its date and its place",
+    form: Form::Flag,
+    needed: false,
+    numbers: None,
+};
+
+/// Whether it is a character set is judged where it is read.
+pub(crate) const SET: Word = Word {
+    id: "from",
+    help: "The character set of the file, one of those below",
+    form: Form::Named("SET"),
+    needed: false,
+    numbers: None,
+};
+
+/// Whether it is a kind of records is judged where it is read.
+pub(crate) const RECORD_KIND: Word = Word {
+    id: "KIND",
+    help: RECORD_KIND_HELP,
+    form: Form::Place,
+    needed: true,
+    numbers: None,
+};
+
+/// The same as an option.
+pub(crate) const OPTION_KIND: Word = Word {
+    id: "kind",
+    help: RECORD_KIND_HELP,
+    form: Form::Named("KIND"),
+    needed: false,
+    numbers: None,
+};
+
+const RECORD_KIND_HELP: &str = "The kind of the records, one of those below";
+
+/// Whether it goes with the kind is judged where it is read.
+pub(crate) const MAYBE_SOURCE: Word = Word {
+    id: "source",
+    help: "Only the entries of the source of this number, 1 to 4294967295",
+    form: Form::Named("N"),
+    needed: false,
+    numbers: Some((1, MOST_NUMBER)),
+};
+
+pub(crate) const AFTER: Word = Word {
+    id: "after",
+    help: "Only records with a greater number than this, 0 to 4294967295",
+    form: Form::Named("NUMBER"),
+    needed: false,
+    numbers: Some((0, MOST_NUMBER)),
+};
+
+pub(crate) const LIMIT: Word = Word {
+    id: "limit",
+    help: "So many records at most, 1 to 4294967295 [default: all]",
+    form: Form::Named("N"),
+    needed: false,
+    numbers: Some((1, MOST_NUMBER)),
+};
+
+pub(crate) const SEARCH: Word = Word {
+    id: "WORD",
+    help: "The words, or beginnings of them, that a name has to have",
+    form: Form::Places,
+    needed: true,
+    numbers: None,
+};
+
+pub(crate) const RECORDS: Word = Word {
+    id: "NO",
+    help: "The numbers of the records, 1 to 4294967295",
+    form: Form::Places,
+    needed: true,
+    numbers: Some((1, MOST_NUMBER)),
+};
+
+/// The word as `clap` is told of it.
+pub(crate) fn arg_of<'a>(alloc: Global, word: &Word) -> Arg<'a>
+    ensures rule { rule_of result ≡ rule_described word.now }
     ensures local { result.global ≡ false }
 {
-    Arg::new(alloc, "FILE")
-        .help(FILE_HELP)
-        .required(true)
-        .action(ArgAction::Set)
+    let arg = formed(Arg::new(alloc, word.id), word)
+        .help(word.help)
+        .required(word.needed);
+    match word.numbers {
+        Some((least, most)) => arg.value_parser(ValueParser::unsigned(least, most)),
+        None => arg,
+    }
 }
 
-/// The name of a society, which has to be given.
-pub(crate) fn society_arg<'a>(alloc: Global) -> Arg<'a>
-    ensures rule { rule_of result ≡ society_rule }
-    ensures local { result.global ≡ false }
+/// An argument, in the form of the word.
+fn formed<'a>(arg: Arg<'a>, word: &Word) -> Arg<'a>
+    ensures rule { rule_of result ≡ with_form word.now.form word.now.id.now (rule_of arg.entry) }
+    ensures local { result.global ≡ arg.entry.global }
 {
-    Arg::new(alloc, "society")
-        .long("society")
-        .value_name("NAME")
-        .help(SOCIETY_HELP)
-        .required(true)
-        .action(ArgAction::Set)
-}
-
-/// The number of a source, which has to be given.
-pub(crate) fn source_arg<'a>(alloc: Global) -> Arg<'a>
-    ensures rule { rule_of result ≡ source_rule }
-    ensures local { result.global ≡ false }
-{
-    Arg::new(alloc, "source")
-        .long("source")
-        .value_name("N")
-        .help(SOURCE_HELP)
-        .required(true)
-        .action(ArgAction::Set)
-        .value_parser(ValueParser::unsigned(1, MOST_NUMBER))
-}
-
-/// The token of a request, which has to be given.
-pub(crate) fn token_arg<'a>(alloc: Global) -> Arg<'a>
-    ensures rule { rule_of result ≡ token_rule }
-    ensures local { result.global ≡ false }
-{
-    Arg::new(alloc, "token")
-        .long("token")
-        .value_name("T")
-        .help(TOKEN_HELP)
-        .required(true)
-        .action(ArgAction::Set)
-}
-
-/// That it is told how far an import is.
-pub(crate) fn progress_arg<'a>(alloc: Global) -> Arg<'a>
-    ensures rule { rule_of result ≡ progress_rule }
-    ensures local { result.global ≡ false }
-{
-    Arg::new(alloc, "progress")
-        .long("progress")
-        .help(PROGRESS_HELP)
-        .action(ArgAction::SetTrue)
-}
-
-/// The kind of a sheet, which has to be named. Whether it is one is judged where it is read.
-pub(crate) fn kind_arg<'a>(alloc: Global) -> Arg<'a>
-    ensures rule { rule_of result ≡ kind_rule }
-    ensures local { result.global ≡ false }
-{
-    Arg::new(alloc, "KIND")
-        .help(KIND_HELP)
-        .required(true)
-        .action(ArgAction::Set)
-}
-
-/// The number of a record, which has to be given.
-pub(crate) fn record_arg<'a>(alloc: Global) -> Arg<'a>
-    ensures rule { rule_of result ≡ record_rule }
-    ensures local { result.global ≡ false }
-{
-    Arg::new(alloc, "NO")
-        .help(RECORD_HELP)
-        .required(true)
-        .action(ArgAction::Set)
-        .value_parser(ValueParser::unsigned(1, MOST_NUMBER))
-}
-
-/// A day, which may be left out. Whether it is one is judged where it is read.
-pub(crate) fn maybe_today_arg<'a>(alloc: Global) -> Arg<'a>
-    ensures rule { rule_of result ≡ maybe_today_rule }
-    ensures local { result.global ≡ false }
-{
-    Arg::new(alloc, "today")
-        .long("today")
-        .value_name("YYYY-MM-DD")
-        .help(TODAY_HELP)
-        .action(ArgAction::Set)
-}
-
-/// A day, which has to be given.
-pub(crate) fn today_arg<'a>(alloc: Global) -> Arg<'a>
-    ensures rule { rule_of result ≡ today_rule }
-    ensures local { result.global ≡ false }
-{
-    maybe_today_arg(alloc).required(true)
-}
-
-/// That an export is for the public.
-pub(crate) fn public_arg<'a>(alloc: Global) -> Arg<'a>
-    ensures rule { rule_of result ≡ public_rule }
-    ensures local { result.global ≡ false }
-{
-    Arg::new(alloc, "public")
-        .long("public")
-        .help(PUBLIC_HELP)
-        .action(ArgAction::SetTrue)
-}
-
-/// How many generations a pedigree has, which may be left out.
-pub(crate) fn generations_arg<'a>(alloc: Global) -> Arg<'a>
-    ensures rule { rule_of result ≡ generations_rule }
-    ensures local { result.global ≡ false }
-{
-    Arg::new(alloc, "generations")
-        .long("generations")
-        .value_name("G")
-        .help(GENERATIONS_HELP)
-        .action(ArgAction::Set)
-        .value_parser(ValueParser::unsigned(1, 12))
-}
-
-/// The port at which visitors are heard, which has to be given.
-pub(crate) fn port_arg<'a>(alloc: Global) -> Arg<'a>
-    ensures rule { rule_of result ≡ port_rule }
-    ensures local { result.global ≡ false }
-{
-    Arg::new(alloc, "port")
-        .long("port")
-        .value_name("P")
-        .help(PORT_HELP)
-        .required(true)
-        .action(ArgAction::Set)
-        .value_parser(ValueParser::unsigned(1, 65535))
-}
-
-/// How many visitors are answered, which has to be given.
-pub(crate) fn count_arg<'a>(alloc: Global) -> Arg<'a>
-    ensures rule { rule_of result ≡ count_rule }
-    ensures local { result.global ≡ false }
-{
-    Arg::new(alloc, "count")
-        .long("count")
-        .value_name("N")
-        .help(COUNT_HELP)
-        .required(true)
-        .action(ArgAction::Set)
-        .value_parser(ValueParser::unsigned(0, 1_000_000))
-}
-
-/// The first of some days, which has to be given. Whether it is a day is judged where it is read.
-pub(crate) fn from_arg<'a>(alloc: Global) -> Arg<'a>
-    ensures rule { rule_of result ≡ from_rule }
-    ensures local { result.global ≡ false }
-{
-    Arg::new(alloc, "from")
-        .long("from")
-        .value_name("YYYY-MM-DD")
-        .help(FROM_HELP)
-        .required(true)
-        .action(ArgAction::Set)
-}
-
-/// The last of some days, which has to be given. Whether it is a day is judged where it is read.
-pub(crate) fn to_arg<'a>(alloc: Global) -> Arg<'a>
-    ensures rule { rule_of result ≡ to_rule }
-    ensures local { result.global ≡ false }
-{
-    Arg::new(alloc, "to")
-        .long("to")
-        .value_name("YYYY-MM-DD")
-        .help(TO_HELP)
-        .required(true)
-        .action(ArgAction::Set)
-}
-
-/// That it is told what each number is.
-pub(crate) fn words_arg<'a>(alloc: Global) -> Arg<'a>
-    ensures rule { rule_of result ≡ words_rule }
-    ensures local { result.global ≡ false }
-{
-    Arg::new(alloc, "words")
-        .long("words")
-        .help(WORDS_HELP)
-        .action(ArgAction::SetTrue)
+    match word.form {
+        Form::Place => arg.action(ArgAction::Set),
+        Form::Places => arg.num_args(1..).action(ArgAction::Append),
+        Form::Named(value) => arg.long(word.id).value_name(value).action(ArgAction::Set),
+        Form::Flag => arg.long(word.id).action(ArgAction::SetTrue),
+    }
 }

@@ -1,42 +1,27 @@
 //! The commands as `clap` is told of them.
 
-ghost use Rattle.std.specs.Prelude.{◌≡◌, IfOk, codes, false};
-ghost use Rattle.clap.specs.Words.{app_of, new_app, shape_of};
+ghost use Rattle.std.specs.Prelude.{◌≡◌, IfOk, codes, false, fold, map};
+ghost use Rattle.clap.specs.Words.{app_of, shape_of, with_rule, with_subcommand};
 ghost use Rattle.clap.specs.declared.builder.command.Command.TheViews.{out-Command};
-ghost use Rattle.command_line.specs.Commands.{
-  apply_shape,
-  audit_shape,
-  bare,
-  days_numbers,
-  days_shape,
-  entries_shape,
-  export_shape,
-  import_shape,
-  init_shape,
-  program,
-  serve_anyday,
-  serve_shape,
-  sheet_shape,
-  sheet_words,
-  with_files,
-  with_rows,
-  with_shows,
-  with_streams_alone,
-};
+ghost use Rattle.command_line.specs.Commands.{bare, program};
+ghost use Rattle.command_line.specs.Described.{rule_described, shape_described};
 
 use crate::arguments::{
-    count_arg, file_arg, from_arg, generations_arg, kind_arg, maybe_today_arg, port_arg,
-    progress_arg, public_arg, record_arg, society_arg, source_arg, to_arg, today_arg, token_arg,
-    words_arg,
+    AFTER, COUNT, FILE, FIRST_DAY, GENERATIONS, LAST_DAY, LIMIT, MAYBE_SOURCE, MAYBE_TODAY,
+    OPTION_KIND, PORT, PROGRESS, PUBLIC, RECORD, RECORD_KIND, RECORDS, SEARCH, SET, SHEET_KIND,
+    SOCIETY, SOURCE, TODAY, TOKEN, WORDS, Word, arg_of,
+};
+use crate::texts_finding::{
+    FIND_ABOUT, FIND_EXAMPLE, LIST_ABOUT, LIST_EXAMPLE, SHOW_ABOUT, SHOW_EXAMPLE,
 };
 use crate::texts_in::{
     APPLY_ABOUT, APPLY_EXAMPLE, ENTRIES_ABOUT, ENTRIES_EXAMPLE, IMPORT_ABOUT, IMPORT_EXAMPLE,
     INIT_ABOUT, INIT_EXAMPLE,
 };
 use crate::texts_out::{
-    AUDIT_ABOUT, AUDIT_EXAMPLE, CHECK_ABOUT, CHECK_EXAMPLE, DAYS_ABOUT, DAYS_EXAMPLE, EXPORT_ABOUT,
-    EXPORT_EXAMPLE, NORM_ABOUT, NORM_EXAMPLE, SERVE_ABOUT, SERVE_EXAMPLE, SHEET_ABOUT,
-    SHEET_EXAMPLE,
+    AUDIT_ABOUT, AUDIT_EXAMPLE, CHECK_ABOUT, CHECK_EXAMPLE, CONVERT_ABOUT, CONVERT_EXAMPLE,
+    DAYS_ABOUT, DAYS_EXAMPLE, EXPORT_ABOUT, EXPORT_EXAMPLE, NORM_ABOUT, NORM_EXAMPLE, SERVE_ABOUT,
+    SERVE_EXAMPLE, SHEET_ABOUT, SHEET_EXAMPLE,
 };
 use clap::Command;
 use std::alloc::{AllocError, Global};
@@ -60,151 +45,130 @@ Exit status:
   1  a refusal
   2  the words were refused";
 
-fn norm_command<'a>(alloc: Global) -> Command<'a>
-    ensures shape { app_of result ≡ new_app (codes "norm") }
-    ensures local { (out-Command result).has_globals ≡ false }
-{
-    Command::new(alloc, "norm")
-        .about(NORM_ABOUT)
-        .after_help(NORM_EXAMPLE)
+/// A command and the words that it takes.
+pub(crate) struct CommandRow {
+    pub(crate) name: &'static str,
+    pub(crate) about: &'static str,
+    pub(crate) example: &'static str,
+    pub(crate) words: &'static [Word],
 }
 
-fn check_command<'a>(alloc: Global) -> Command<'a>
-    ensures shape { app_of result ≡ new_app (codes "check") }
-    ensures local { (out-Command result).has_globals ≡ false }
-{
-    Command::new(alloc, "check")
-        .about(CHECK_ABOUT)
-        .after_help(CHECK_EXAMPLE)
-}
+/// The commands, in the order of the help.
+const COMMANDS: [CommandRow; 15] = [
+    NORM, CHECK, CONVERT, INIT, APPLY, ENTRIES, IMPORT, EXPORT, SHEET, SERVE, AUDIT, DAYS, LIST,
+    FIND, SHOW,
+];
 
-fn init_command<'a>(alloc: Global) -> Result<Command<'a>, AllocError>
-    ensures shape { IfOk result (λ c. shape_of c ≡ init_shape) }
-    ensures local { IfOk result (λ c. (out-Command c).has_globals ≡ false) }
-{
-    Command::new(alloc, "init")
-        .about(INIT_ABOUT)
-        .after_help(INIT_EXAMPLE)
-        .arg(file_arg(alloc))?
-        .arg(society_arg(alloc))
-}
+const NORM: CommandRow = CommandRow {
+    name: "norm",
+    about: NORM_ABOUT,
+    example: NORM_EXAMPLE,
+    words: &[],
+};
 
-fn apply_command<'a>(alloc: Global) -> Result<Command<'a>, AllocError>
-    ensures shape { IfOk result (λ c. shape_of c ≡ apply_shape) }
-    ensures local { IfOk result (λ c. (out-Command c).has_globals ≡ false) }
-{
-    Command::new(alloc, "apply")
-        .about(APPLY_ABOUT)
-        .after_help(APPLY_EXAMPLE)
-        .arg(file_arg(alloc))
-}
+const CHECK: CommandRow = CommandRow {
+    name: "check",
+    about: CHECK_ABOUT,
+    example: CHECK_EXAMPLE,
+    words: &[],
+};
 
-fn entries_command<'a>(alloc: Global) -> Result<Command<'a>, AllocError>
-    ensures shape { IfOk result (λ c. shape_of c ≡ entries_shape) }
-    ensures local { IfOk result (λ c. (out-Command c).has_globals ≡ false) }
-{
-    Command::new(alloc, "entries")
-        .about(ENTRIES_ABOUT)
-        .after_help(ENTRIES_EXAMPLE)
-        .arg(file_arg(alloc))?
-        .arg(source_arg(alloc))?
-        .arg(token_arg(alloc))
-}
+const CONVERT: CommandRow = CommandRow {
+    name: "convert",
+    about: CONVERT_ABOUT,
+    example: CONVERT_EXAMPLE,
+    words: &[SET],
+};
 
-fn import_command<'a>(alloc: Global) -> Result<Command<'a>, AllocError>
-    ensures shape { IfOk result (λ c. shape_of c ≡ import_shape) }
-    ensures local { IfOk result (λ c. (out-Command c).has_globals ≡ false) }
-{
-    Command::new(alloc, "import")
-        .about(IMPORT_ABOUT)
-        .after_help(IMPORT_EXAMPLE)
-        .arg(file_arg(alloc))?
-        .arg(token_arg(alloc))?
-        .arg(progress_arg(alloc))
-}
+const INIT: CommandRow = CommandRow {
+    name: "init",
+    about: INIT_ABOUT,
+    example: INIT_EXAMPLE,
+    words: &[FILE, SOCIETY],
+};
 
-fn export_command<'a>(alloc: Global) -> Result<Command<'a>, AllocError>
-    ensures shape { IfOk result (λ c. shape_of c ≡ export_shape) }
-    ensures local { IfOk result (λ c. (out-Command c).has_globals ≡ false) }
-{
-    Command::new(alloc, "export")
-        .about(EXPORT_ABOUT)
-        .after_help(EXPORT_EXAMPLE)
-        .arg(file_arg(alloc))?
-        .arg(public_arg(alloc))?
-        .arg(maybe_today_arg(alloc))
-}
+const APPLY: CommandRow = CommandRow {
+    name: "apply",
+    about: APPLY_ABOUT,
+    example: APPLY_EXAMPLE,
+    words: &[FILE],
+};
 
-/// `sheet` without its options.
-fn sheet_words<'a>(alloc: Global) -> Result<Command<'a>, AllocError>
-    ensures shape { IfOk result (λ c. shape_of c ≡ sheet_words) }
-    ensures local { IfOk result (λ c. (out-Command c).has_globals ≡ false) }
-{
-    Command::new(alloc, "sheet")
-        .about(SHEET_ABOUT)
-        .after_help(SHEET_EXAMPLE)
-        .arg(file_arg(alloc))?
-        .arg(kind_arg(alloc))?
-        .arg(record_arg(alloc))
-}
+const ENTRIES: CommandRow = CommandRow {
+    name: "entries",
+    about: ENTRIES_ABOUT,
+    example: ENTRIES_EXAMPLE,
+    words: &[FILE, SOURCE, TOKEN],
+};
 
-fn sheet_command<'a>(alloc: Global) -> Result<Command<'a>, AllocError>
-    ensures shape { IfOk result (λ c. shape_of c ≡ sheet_shape) }
-    ensures local { IfOk result (λ c. (out-Command c).has_globals ≡ false) }
-{
-    sheet_words(alloc)?
-        .arg(today_arg(alloc))?
-        .arg(generations_arg(alloc))
-}
+const IMPORT: CommandRow = CommandRow {
+    name: "import",
+    about: IMPORT_ABOUT,
+    example: IMPORT_EXAMPLE,
+    words: &[FILE, TOKEN, PROGRESS],
+};
 
-/// `serve` without its day.
-fn serve_anyday<'a>(alloc: Global) -> Result<Command<'a>, AllocError>
-    ensures shape { IfOk result (λ c. shape_of c ≡ serve_anyday) }
-    ensures local { IfOk result (λ c. (out-Command c).has_globals ≡ false) }
-{
-    Command::new(alloc, "serve")
-        .about(SERVE_ABOUT)
-        .after_help(SERVE_EXAMPLE)
-        .arg(file_arg(alloc))?
-        .arg(port_arg(alloc))?
-        .arg(count_arg(alloc))
-}
+const EXPORT: CommandRow = CommandRow {
+    name: "export",
+    about: EXPORT_ABOUT,
+    example: EXPORT_EXAMPLE,
+    words: &[FILE, PUBLIC, MAYBE_TODAY],
+};
 
-fn serve_command<'a>(alloc: Global) -> Result<Command<'a>, AllocError>
-    ensures shape { IfOk result (λ c. shape_of c ≡ serve_shape) }
-    ensures local { IfOk result (λ c. (out-Command c).has_globals ≡ false) }
-{
-    serve_anyday(alloc)?.arg(today_arg(alloc))
-}
+const SHEET: CommandRow = CommandRow {
+    name: "sheet",
+    about: SHEET_ABOUT,
+    example: SHEET_EXAMPLE,
+    words: &[FILE, SHEET_KIND, RECORD, TODAY, GENERATIONS],
+};
 
-fn audit_command<'a>(alloc: Global) -> Result<Command<'a>, AllocError>
-    ensures shape { IfOk result (λ c. shape_of c ≡ audit_shape) }
-    ensures local { IfOk result (λ c. (out-Command c).has_globals ≡ false) }
-{
-    Command::new(alloc, "audit")
-        .about(AUDIT_ABOUT)
-        .after_help(AUDIT_EXAMPLE)
-        .arg(file_arg(alloc))
-}
+const SERVE: CommandRow = CommandRow {
+    name: "serve",
+    about: SERVE_ABOUT,
+    example: SERVE_EXAMPLE,
+    words: &[FILE, PORT, COUNT, TODAY],
+};
 
-/// `days` without what it prints beside the numbers.
-fn days_numbers<'a>(alloc: Global) -> Result<Command<'a>, AllocError>
-    ensures shape { IfOk result (λ c. shape_of c ≡ days_numbers) }
-    ensures local { IfOk result (λ c. (out-Command c).has_globals ≡ false) }
-{
-    Command::new(alloc, "days")
-        .about(DAYS_ABOUT)
-        .after_help(DAYS_EXAMPLE)
-        .arg(file_arg(alloc))?
-        .arg(from_arg(alloc))?
-        .arg(to_arg(alloc))
-}
+const AUDIT: CommandRow = CommandRow {
+    name: "audit",
+    about: AUDIT_ABOUT,
+    example: AUDIT_EXAMPLE,
+    words: &[FILE],
+};
 
-fn days_command<'a>(alloc: Global) -> Result<Command<'a>, AllocError>
-    ensures shape { IfOk result (λ c. shape_of c ≡ days_shape) }
-    ensures local { IfOk result (λ c. (out-Command c).has_globals ≡ false) }
+const DAYS: CommandRow = CommandRow {
+    name: "days",
+    about: DAYS_ABOUT,
+    example: DAYS_EXAMPLE,
+    words: &[FILE, FIRST_DAY, LAST_DAY, WORDS],
+};
+
+const LIST: CommandRow = CommandRow {
+    name: "list",
+    about: LIST_ABOUT,
+    example: LIST_EXAMPLE,
+    words: &[FILE, RECORD_KIND, MAYBE_SOURCE, AFTER, LIMIT],
+};
+
+const FIND: CommandRow = CommandRow {
+    name: "find",
+    about: FIND_ABOUT,
+    example: FIND_EXAMPLE,
+    words: &[FILE, SEARCH, OPTION_KIND, LIMIT],
+};
+
+const SHOW: CommandRow = CommandRow {
+    name: "show",
+    about: SHOW_ABOUT,
+    example: SHOW_EXAMPLE,
+    words: &[FILE, RECORDS],
+};
+
+/// `parish` and its commands.
+pub(crate) fn parish_command<'a>(alloc: Global) -> Result<Command<'a>, AllocError>
+    ensures { IfOk result (λ c. app_of c ≡ program) }
 {
-    days_numbers(alloc)?.arg(words_arg(alloc))
+    with_commands(alloc, bare_command(alloc)?, &COMMANDS)
 }
 
 /// `parish` without its commands.
@@ -222,54 +186,44 @@ fn bare_command<'a>(alloc: Global) -> Result<Command<'a>, AllocError>
     )
 }
 
-/// `parish` and its commands that take no word.
-fn streams_alone<'a>(alloc: Global) -> Result<Command<'a>, AllocError>
-    ensures { IfOk result (λ c. app_of c ≡ with_streams_alone) }
+/// A command with these below it.
+fn with_commands<'a>(
+    alloc: Global,
+    command: Command<'a>,
+    rows: &[CommandRow],
+) -> Result<Command<'a>, AllocError>
+    ensures { IfOk result (λ c. app_of c ≡ fold with_subcommand (app_of command.entry) (map shape_described rows.now)) }
 {
-    bare_command(alloc)?
-        .subcommand(norm_command(alloc))?
-        .subcommand(check_command(alloc))
+    let mut command = command;
+    for row in rows {
+        command = command.subcommand(command_of(alloc, row)?)?;
+    }
+    Ok(command)
 }
 
-/// `parish` with its commands that make an archive and enter rows.
-fn with_rows<'a>(alloc: Global) -> Result<Command<'a>, AllocError>
-    ensures { IfOk result (λ c. app_of c ≡ with_rows) }
+/// A command of the table.
+fn command_of<'a>(alloc: Global, row: &CommandRow) -> Result<Command<'a>, AllocError>
+    ensures shape { IfOk result (λ c. shape_of c ≡ shape_described row.now) }
+    ensures local { IfOk result (λ c. (out-Command c).has_globals ≡ false) }
 {
-    let init = init_command(alloc)?;
-    let apply = apply_command(alloc)?;
-    let entries = entries_command(alloc)?;
-    streams_alone(alloc)?
-        .subcommand(init)?
-        .subcommand(apply)?
-        .subcommand(entries)
+    let command = Command::new(alloc, row.name)
+        .about(row.about)
+        .after_help(row.example);
+    with_words(alloc, command, row.words)
 }
 
-/// `parish` with its commands that take in and give out a file of lines.
-fn with_files<'a>(alloc: Global) -> Result<Command<'a>, AllocError>
-    ensures { IfOk result (λ c. app_of c ≡ with_files) }
+/// A command that takes these words too.
+fn with_words<'a>(
+    alloc: Global,
+    command: Command<'a>,
+    words: &[Word],
+) -> Result<Command<'a>, AllocError>
+    ensures words { IfOk result (λ c. app_of c ≡ fold with_rule (app_of command.entry) (map rule_described words.now)) }
+    ensures local { IfOk result (λ c. (out-Command c).has_globals ≡ (out-Command command.entry).has_globals) }
 {
-    let import = import_command(alloc)?;
-    let export = export_command(alloc)?;
-    with_rows(alloc)?.subcommand(import)?.subcommand(export)
-}
-
-/// `parish` and its commands.
-pub(crate) fn parish_command<'a>(alloc: Global) -> Result<Command<'a>, AllocError>
-    ensures { IfOk result (λ c. app_of c ≡ program) }
-{
-    let days = days_command(alloc)?;
-    with_shows(alloc)?.subcommand(days)
-}
-
-/// `parish` with its commands that show an archive, and the one that judges it.
-fn with_shows<'a>(alloc: Global) -> Result<Command<'a>, AllocError>
-    ensures { IfOk result (λ c. app_of c ≡ with_shows) }
-{
-    let sheet = sheet_command(alloc)?;
-    let serve = serve_command(alloc)?;
-    let audit = audit_command(alloc)?;
-    with_files(alloc)?
-        .subcommand(sheet)?
-        .subcommand(serve)?
-        .subcommand(audit)
+    let mut command = command;
+    for word in words {
+        command = command.arg(arg_of(alloc, word))?;
+    }
+    Ok(command)
 }

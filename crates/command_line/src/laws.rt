@@ -12,10 +12,9 @@ ghost use Rattle.command_line.specs.Asking.{
   is_public,
   is_told,
   kind_in,
-  number_of,
-  number_up_to,
   word_in,
 };
+ghost use Rattle.command_line.specs.Meanings.{number_of, number_up_to};
 ghost use Rattle.command_line.specs.Commands.{program};
 ghost use Rattle.command_line.specs.Examples.{
   batch_words,

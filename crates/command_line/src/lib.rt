@@ -8,15 +8,18 @@
 #![tactic(auto)]
 
 mod arguments;
+mod choosing;
 mod commands;
 mod days;
 pub mod laws;
 mod reading;
+mod refusing;
 mod showing;
 mod tasks;
+mod texts_finding;
 mod texts_in;
 mod texts_out;
 mod words;
 
 pub use reading::read_words;
-pub use tasks::{Asked, Refused, SheetKind};
+pub use tasks::{Asked, RecordKind, Refused, SetName, SheetKind};

@@ -13,6 +13,7 @@ ghost use Rattle.command_line.specs.Asking.{
   name_of,
 };
 
+use crate::choosing::{convert_asked, find_asked, list_asked, show_asked};
 use crate::commands::parish_command;
 use crate::showing::{days_asked, export_asked, serve_asked, sheet_asked};
 use crate::tasks::{Asked, Refused};
@@ -67,6 +68,7 @@ fn command_named<'a>(
     match name {
         "norm" => Ok(Asked::Norm),
         "check" => Ok(Asked::Check),
+        "convert" => convert_asked(alloc, given),
         "init" => Ok(Asked::Init {
             file: word_of(given, "FILE"),
             society: word_of(given, "society"),
@@ -91,6 +93,9 @@ fn command_named<'a>(
             file: word_of(given, "FILE"),
         }),
         "days" => days_asked(alloc, given),
+        "list" => list_asked(alloc, given),
+        "find" => find_asked(alloc, given),
+        "show" => show_asked(alloc, given),
         _ => no_such_command(alloc),
     }
 }
@@ -115,7 +120,7 @@ fn text_shown<'a>(alloc: Global, error: &Error) -> Result<Asked<'a>, Refused>
     }
     let text = format!(in alloc; "{error}")?;
     match error.kind() {
-        ErrorKind::DisplayHelp | ErrorKind::DisplayVersion => Ok(Asked::Show { text }),
+        ErrorKind::DisplayHelp | ErrorKind::DisplayVersion => Ok(Asked::Text { text }),
         _ => Err(Refused::Words { text }),
     }
 }

@@ -6,10 +6,11 @@ ghost use Rattle.command_line.specs.Asking.{AsksForWork, HasWords, is_fit, name_
 ghost use Rattle.command_line.specs.Days.{day_read};
 
 use crate::days::day_of;
+use crate::refusing::{bad_day, lacking, no_value};
 use crate::tasks::{Asked, Refused};
 use crate::words::{generations_of, given_word, is_yes, kind_named, number_of, port_of, word_of};
 use clap::ArgMatches;
-use std::alloc::{AllocError, Global};
+use std::alloc::Global;
 
 /// `export`: the whole archive, or where `--public` is given what may be shown of it on a day. Refused where the day is
 /// none, or one is given and `--public` is not.
@@ -39,7 +40,7 @@ pub(crate) fn sheet_asked<'a>(alloc: Global, given: &ArgMatches<'a>) -> Result<A
     ensures taken { is_fit (Some (codes "sheet", rows_of (found_of given.now))) ≡ true → AsksForWork result }
 {
     let Some(kind) = kind_named(word_of(given, "KIND")) else {
-        return Err(no_kind(alloc, word_of(given, "KIND")));
+        return Err(no_value(alloc, word_of(given, "KIND"), "<KIND>", KINDS));
     };
     match today_of(given) {
         Some(today) => Ok(Asked::Sheet {
@@ -105,35 +106,4 @@ fn no_day(alloc: Global, word: Option<&str>) -> Refused {
     }
 }
 
-/// The words are refused since no day is read from the one of an option.
-fn bad_day(alloc: Global, word: &str, option: &str) -> Refused {
-    refused(format!(in alloc;
-        "error: invalid value '{word}' for '{option} <YYYY-MM-DD>': no day\n\n{HELP}"
-    ))
-}
-
-/// The words are refused since that is no kind of sheet.
-fn no_kind(alloc: Global, word: &str) -> Refused {
-    refused(format!(in alloc; "error: invalid value '{word}' for '<KIND>'\n{KINDS}\n\n{HELP}"))
-}
-
-/// The words are refused since an export lacks that option, which goes with one that is given.
-fn lacking(alloc: Global, option: &str) -> Refused {
-    refused(format!(in alloc;
-        "error: the following required arguments were not provided:\n  {option}\n\n{EXPORT_USAGE}\n\n{HELP}"
-    ))
-}
-
-/// The words are refused with that text, unless memory was wanting for it.
-fn refused(text: Result<String, AllocError>) -> Refused {
-    match text {
-        Ok(text) => Refused::Words { text },
-        Err(_) => Refused::OutOfMemory,
-    }
-}
-
-const KINDS: &str = "  [possible values: person, family, pedigree, register]";
-
-const EXPORT_USAGE: &str = "Usage: parish export [--public --today <YYYY-MM-DD>] <FILE>";
-
-const HELP: &str = "For more information, try '--help'.\n";
+const KINDS: &str = "person, family, pedigree, register";

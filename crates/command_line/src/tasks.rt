@@ -1,5 +1,6 @@
 //! What a command line may ask for, and why it may ask for nothing.
 
+use search_keys::SearchWords;
 use std::alloc::AllocError;
 
 /// What a command line asks for. Days are counted from 1970-01-01, day 0.
@@ -9,6 +10,11 @@ pub enum Asked<'a> {
     Norm,
     /// `check`: the number of records of standard input's forest, on standard output.
     Check,
+    /// `convert`: the GEDCOM file of standard input in UTF-8, on standard output. It is in the character set of
+    /// `--from`, where one is given.
+    Convert {
+        from: Option<SetName>,
+    },
     /// `init`: a new archive of a society in a file.
     Init {
         file: &'a str,
@@ -69,8 +75,30 @@ pub enum Asked<'a> {
         last: i32,
         words: bool,
     },
-    /// `--help` or `--version`, of the program or of a command: the text for standard output.
+    /// `list`: the records of a kind of the archive in a file after a number, a line each, on standard output; the
+    /// entries may be those of a source. There are so many at most; all where that was not given.
+    List {
+        file: &'a str,
+        kind: RecordKind,
+        source: Option<u32>,
+        after: u32,
+        limit: Option<u32>,
+    },
+    /// `find`: the records, of a kind where one is given, of the archive in a file in one of whose names all words
+    /// occur, a line each, on standard output. There are so many at most; all where that was not given.
+    Find {
+        file: &'a str,
+        words: SearchWords,
+        kind: Option<RecordKind>,
+        limit: Option<u32>,
+    },
+    /// `show`: the records of these numbers of the archive in a file, each whole, on standard output.
     Show {
+        file: &'a str,
+        numbers: Vec<u32>,
+    },
+    /// `--help` or `--version`, of the program or of a command: the text for standard output.
+    Text {
         text: String,
     },
 }
@@ -86,6 +114,50 @@ pub enum SheetKind {
     Pedigree,
     /// `register`: the entries of a source.
     Register,
+}
+
+/// The kinds of records.
+#[derive(Clone, Copy, Debug)]
+pub enum RecordKind {
+    /// `persons`.
+    Persons,
+    /// `families`.
+    Families,
+    /// `events`.
+    Events,
+    /// `places`.
+    Places,
+    /// `repositories`.
+    Repositories,
+    /// `sources`.
+    Sources,
+    /// `citations`.
+    Citations,
+    /// `entries`: register entries.
+    Entries,
+    /// `others`.
+    Others,
+}
+
+/// The character sets that a file may be in.
+#[derive(Clone, Copy, Debug)]
+pub enum SetName {
+    /// `utf-8`.
+    Utf8,
+    /// `utf-16le`: UTF-16 with the lower byte of each unit first.
+    Utf16Le,
+    /// `utf-16be`: UTF-16 with the higher byte of each unit first.
+    Utf16Be,
+    /// `1252`: the code page of Windows in western Europe and America.
+    Windows1252,
+    /// `437`: the first code page of DOS.
+    CodePage437,
+    /// `850`: the code page of DOS in western Europe.
+    CodePage850,
+    /// `macintosh`: MacRoman.
+    Macintosh,
+    /// `ansel`.
+    Ansel,
 }
 
 /// Why a command line asks for nothing.

@@ -19,6 +19,31 @@ The header and the trailer are no records.
 Example:
   parish check < family.ged";
 
+pub(crate) const CONVERT_ABOUT: &str = "Write the GEDCOM file of standard input in UTF-8";
+
+pub(crate) const CONVERT_EXAMPLE: &str = "\
+The lines of the file are written to standard output in UTF-8, with CHAR UTF-8 in
+the header. Its character set is that of a mark of UTF-16 at its beginning, else
+that of --from, else UTF-8 where all of it is UTF-8, else the one that its CHAR
+names. Nothing is written before the whole file was read. There is no archive.
+
+SET is utf-8, utf-16le, utf-16be, 1252 (Windows), 437 or 850 (DOS), macintosh or
+ansel.
+
+Standard error has the set, what said so, and some lines as they were read: look
+at these, since no rule knows a wrong CHAR.
+
+Refusals:
+  29 Charset       the set is not known: say it with --from
+  27 FileTooLarge  over 134217728 bytes read, or 67108864 to be written
+  94 ReadFailed    standard input could not be read
+  95 WriteFailed   standard output could not be written
+  1
+
+Examples:
+  parish convert < family.ged > family-utf8.ged
+  parish convert --from 850 < family.ged > family-utf8.ged";
+
 pub(crate) const EXPORT_ABOUT: &str = "Write the archive as a GEDCOM 5.5.1 file";
 
 pub(crate) const EXPORT_EXAMPLE: &str = "\

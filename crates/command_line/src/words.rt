@@ -1,13 +1,21 @@
 //! The words that a command is given.
 
-ghost use Rattle.std.specs.Prelude.{◌≡◌, [], codes, option_map, unwrap_or};
+ghost use Rattle.std.specs.Prelude.{◌≡◌, IfOk, [], codes, map, option_map, unwrap_or};
 ghost use Rattle.std.specs.Int.{IsInRange};
 ghost use Rattle.std.specs.Str.{bytes_eq};
-ghost use Rattle.clap.specs.Words.{first_of, found_of, rows_of};
-ghost use Rattle.command_line.specs.Asking.{generations_of, kind_named, number_of, number_up_to};
+ghost use Rattle.clap.specs.Words.{all_of, first_of, found_of, rows_of};
+ghost use Rattle.command_line.specs.Meanings.{
+  generations_of,
+  kind_named,
+  number_of,
+  number_up_to,
+  records_named,
+  set_named,
+};
 
-use crate::tasks::SheetKind;
+use crate::tasks::{RecordKind, SetName, SheetKind};
 use clap::ArgMatches;
+use std::alloc::{AllocError, Global};
 
 /// The generations of a pedigree where none are given.
 const GENERATIONS: u32 = 4;
@@ -27,6 +35,50 @@ pub(crate) fn word_of<'a>(given: &ArgMatches<'a>, id: &str) -> &'a str
     match given_word(given, id) {
         Some(word) => word,
         None => "",
+    }
+}
+
+/// The words that a command is given for its last word.
+pub(crate) fn words_of<'a>(
+    alloc: Global,
+    given: &ArgMatches<'a>,
+    id: &str,
+) -> Result<Vec<&'a str>, AllocError>
+    ensures { IfOk result (λ words. map (λ w. w.now) words.items
+        ≡ unwrap_or (all_of id.now (rows_of (found_of given.now))) []) }
+{
+    match given.get_strs(id) {
+        Some(words) => Ok(collected(alloc, words)?),
+        None => Ok(Vec::new(alloc)),
+    }
+}
+
+fn collected<'a>(alloc: Global, words: &[&'a str]) -> Result<Vec<&'a str>, AllocError>
+    ensures { IfOk result (λ all. all.items ≡ words.now) }
+{
+    let mut all = Vec::new(alloc);
+    all.extend_from_slice(words)?;
+    Ok(all)
+}
+
+/// The numbers of words.
+pub(crate) fn numbers_of(alloc: Global, words: &[&str]) -> Result<Vec<u32>, AllocError>
+    ensures { IfOk result (λ numbers. numbers.items ≡ map number_of (map (λ w. w.now) words.now)) }
+{
+    let mut numbers = Vec::new(alloc);
+    for word in words {
+        numbers.push(number_of(word))?;
+    }
+    Ok(numbers)
+}
+
+/// The number that a command is given for an option. `None`: it is given none.
+pub(crate) fn given_number(given: &ArgMatches<'_>, id: &str) -> Option<u32>
+    ensures { result ≡ option_map number_of (first_of id.now (rows_of (found_of given.now))) }
+{
+    match given_word(given, id) {
+        Some(word) => Some(number_of(word)),
+        None => None,
     }
 }
 
@@ -79,6 +131,41 @@ pub(crate) fn kind_named(word: &str) -> Option<SheetKind>
         "family" => Some(SheetKind::Family),
         "pedigree" => Some(SheetKind::Pedigree),
         "register" => Some(SheetKind::Register),
+        _ => None,
+    }
+}
+
+/// The kind of records of a word. `None`: it is none.
+pub(crate) fn records_named(word: &str) -> Option<RecordKind>
+    ensures { result ≡ records_named word.now }
+{
+    match word {
+        "persons" => Some(RecordKind::Persons),
+        "families" => Some(RecordKind::Families),
+        "events" => Some(RecordKind::Events),
+        "places" => Some(RecordKind::Places),
+        "repositories" => Some(RecordKind::Repositories),
+        "sources" => Some(RecordKind::Sources),
+        "citations" => Some(RecordKind::Citations),
+        "entries" => Some(RecordKind::Entries),
+        "others" => Some(RecordKind::Others),
+        _ => None,
+    }
+}
+
+/// The character set of a word. `None`: it is none.
+pub(crate) fn set_named(word: &str) -> Option<SetName>
+    ensures { result ≡ set_named word.now }
+{
+    match word {
+        "utf-8" => Some(SetName::Utf8),
+        "utf-16le" => Some(SetName::Utf16Le),
+        "utf-16be" => Some(SetName::Utf16Be),
+        "1252" => Some(SetName::Windows1252),
+        "437" => Some(SetName::CodePage437),
+        "850" => Some(SetName::CodePage850),
+        "macintosh" => Some(SetName::Macintosh),
+        "ansel" => Some(SetName::Ansel),
         _ => None,
     }
 }

@@ -33,6 +33,7 @@ use Rattle.database_files.specs.Opening.{IsUntouched}
 use Rattle.database_files.specs.declared.left.Left.{Left}
 use Rattle.devices.specs.declared.device.Device as device
 use Rattle.parish.specs.Doing.{Does, DoesTask, DoesUnder, Finished, IsNoToken}
+use Rattle.parish.specs.Lists.{find_task, list_task}
 use Rattle.parish.specs.Runs.{IsRun}
 use Rattle.parish.specs.declared.visits.Visits.{Visits}
 use Rattle.program_runs.specs.Runs.{Carries, Run, Stands}
@@ -105,6 +106,7 @@ module _ {R W F D S : Type 0} {g : disk.Ghosts D} (reader : read.Ghosts R) (read
           → IsRun image bytes seen ended after a
       is_run asked.Norm did = ((None, refl, idles [] (inl did.1.0)), tt)
       is_run asked.Check did = ((None, refl, idles [] (inl did.1.0)), tt)
+      is_run (asked.Convert from) did = ((None, refl, idles [] (inl did.1.0)), tt)
       is_run (asked.Init file society) did =
           let makes = did.0.1 in
           let finishes =
@@ -127,4 +129,10 @@ module _ {R W F D S : Type 0} {g : disk.Ghosts D} (reader : read.Ghosts R) (read
       is_run (asked.Audit file) did = ((Some task.Audit, refl, performs task.Audit did), tt)
       is_run (asked.Days file first last words) did =
           let t = task.Days first last words in ((Some t, refl, performs t did), tt)
-      is_run (asked.Show text) did = ((None, refl, idles [] (inl did.2.0)), tt)
+      is_run (asked.List file which source after limit) did =
+          let t = list_task which source after limit in ((Some t, refl, performs t did), tt)
+      is_run (asked.Find file words which limit) did =
+          let t = find_task words which limit in ((Some t, refl, performs t did), tt)
+      is_run (asked.Show file numbers) did =
+          let t = task.Show numbers in ((Some t, refl, performs t did), tt)
+      is_run (asked.Text text) did = ((None, refl, idles [] (inl did.2.0)), tt)

@@ -1,5 +1,22 @@
 -- The status of what was asked for, and what is said on the faults where it is 0.
-use Rattle.std.proofs.Common.{◌≡◌, ◌≤◌, ℕ, List, true, false, arith, inl, inr, refl, subst, ap, Ok, Err, true≢false}
+use Rattle.std.proofs.Common.{
+  ◌≡◌,
+  ◌⊎◌,
+  ◌≤◌,
+  ℕ,
+  List,
+  true,
+  false,
+  arith,
+  inl,
+  inr,
+  refl,
+  subst,
+  ap,
+  Ok,
+  Err,
+  true≢false,
+}
 use Rattle.std.specs.Prelude.{Option, Result, OnErr, OnOk, is_ok, if◌then◌else◌}
 use Rattle.std.specs.Io.KnownBytes.{Appends}
 use Rattle.std.specs.declared.io.Read as read
@@ -15,6 +32,7 @@ use Rattle.database_files.specs.declared.left.Left.{Left}
 use Rattle.devices.specs.Devices.{AppendsBeginning}
 use Rattle.devices.specs.declared.device.Device as device
 use Rattle.parish.specs.Doing.{Does, DoesTask, DoesUnder, Finished, tells}
+use Rattle.parish.specs.Lists.{find_task, list_task}
 use Rattle.parish.specs.Rooms.{VisitsEnd}
 use Rattle.parish.specs.declared.visits.Visits.{Visits}
 use Rattle.reading_room.specs.Listening.{listening_line}
@@ -35,6 +53,10 @@ module _ {D S R W F : Type 0} {g : disk.Ghosts D} (reader : read.Ghosts R) (read
     (image : Image) (status : ℕ)
     (x y : Streams R W F) (left : Left S D g) (room : Option Visits) where
   -- ---- the status is 0 or 1
+  converted_at_most_1 : (P Q : Type 0) → ((status ≡ 0) × P) ⊎ ((status ≡ 1) × Q) → status ≤ 1
+  converted_at_most_1 P Q (inl done) = omega (arith, done.0)
+  converted_at_most_1 P Q (inr refused) = omega (arith, refused.0)
+
   finished_at_most_1 : (P : Outcome → Type 0)
       → Finished reader reads writer writes faulter fails image status x y left room P → status ≤ 1
   finished_at_most_1 P did = at_most_1 faulter.contents did.0 status x.faults y.faults did.2
@@ -56,6 +78,7 @@ module _ {D S R W F : Type 0} {g : disk.Ghosts D} (reader : read.Ghosts R) (read
       → status ≤ 1
   does_at_most_1 asked.Norm did = finished_at_most_1 _ did.0
   does_at_most_1 asked.Check did = finished_at_most_1 _ did.0
+  does_at_most_1 (asked.Convert from) did = converted_at_most_1 _ _ did.0
   does_at_most_1 (asked.Init file society) did = finished_at_most_1 _ did.0
   does_at_most_1 (asked.Apply file) did =
       file_at_most_1 task.Apply did.0 did.1
@@ -75,7 +98,13 @@ module _ {D S R W F : Type 0} {g : disk.Ghosts D} (reader : read.Ghosts R) (read
       file_at_most_1 task.Audit did.0 did.1
   does_at_most_1 (asked.Days file first last words) did =
       file_at_most_1 (task.Days first last words) did.0 did.1
-  does_at_most_1 (asked.Show text) did = finished_at_most_1 _ did.0
+  does_at_most_1 (asked.List file which source after limit) did =
+      file_at_most_1 (list_task which source after limit) did.0 did.1
+  does_at_most_1 (asked.Find file words which limit) did =
+      file_at_most_1 (find_task words which limit) did.0 did.1
+  does_at_most_1 (asked.Show file numbers) did =
+      file_at_most_1 (task.Show numbers) did.0 did.1
+  does_at_most_1 (asked.Text text) did = finished_at_most_1 _ did.0
 
   -- ---- what is done says nothing on the faults, but for rows and the progress of an import
   finished_quietly : (P : Outcome → Type 0)
@@ -105,6 +134,7 @@ module _ {D S R W F : Type 0} {g : disk.Ghosts D} (reader : read.Ghosts R) (read
       → tells a ≡ false → status ≡ 0 → y.faults ≡ x.faults
   does_quietly asked.Norm did is zero = finished_quietly _ did.0 zero
   does_quietly asked.Check did is zero = finished_quietly _ did.0 zero
+  does_quietly (asked.Convert from) did is zero = absurd (true≢false is)
   does_quietly (asked.Init file society) did is zero = finished_quietly _ did.0 zero
   does_quietly (asked.Apply file) did is zero = absurd (true≢false is)
   does_quietly (asked.Entries file source token) did is zero =
@@ -123,7 +153,13 @@ module _ {D S R W F : Type 0} {g : disk.Ghosts D} (reader : read.Ghosts R) (read
       file_quietly task.Audit did.0 did.1 refl zero
   does_quietly (asked.Days file first last words) did is zero =
       file_quietly (task.Days first last words) did.0 did.1 refl zero
-  does_quietly (asked.Show text) did is zero = finished_quietly _ did.0 zero
+  does_quietly (asked.List file which source after limit) did is zero =
+      file_quietly (list_task which source after limit) did.0 did.1 refl zero
+  does_quietly (asked.Find file words which limit) did is zero =
+      file_quietly (find_task words which limit) did.0 did.1 refl zero
+  does_quietly (asked.Show file numbers) did is zero =
+      file_quietly (task.Show numbers) did.0 did.1 refl zero
+  does_quietly (asked.Text text) did is zero = finished_quietly _ did.0 zero
 
 -- ---- a room, once the file is closed
 pub visits_end : (r : Plain) (port status : ℕ) (old new : Option (List ℕ)) (WriterFailed : Type 0) {F : Type 0}

@@ -38,6 +38,11 @@ module _ {D S R W F : Type 0} {g : disk.Ghosts D} (reader : read.Ghosts R) (read
       on_day room (λ (d : ℤ). task.Days first d words) l last h
       (on_day room (λ (d : ℤ). task.Days d l words) f first e did)
 
+  pub in_task : (room : Option Visits) (t u : Task) → t ≡ u
+      → DoesTask reader reads writer writes faulter fails image status x y left room t
+      → DoesTask reader reads writer writes faulter fails image status x y left room u
+  in_task room t u e did = subst (DoesTask reader reads writer writes faulter fails image status x y left room) e did
+
   pub library_on : (shown : Option Content) (today day : ℤ) → today ≡ day
       → EndsOnFile reader reads writer writes faulter fails image (task.Library today) x y status shown left
       → EndsOnFile reader reads writer writes faulter fails image (task.Library day) x y status shown left

@@ -25,6 +25,7 @@ module _ {R W F D S : Type 0} {g : disk.Ghosts D} (reader : read.Ghosts R) (read
       → RefusesWords reader reads writer writes faulter fails image status x y left room words
   untaken asked.Norm is did help = absurd (none is.0)
   untaken asked.Check is did help = absurd (none is.0)
+  untaken (asked.Convert from) is did help = absurd (none is.0)
   untaken (asked.Init file society) is did help = absurd (none is.0)
   untaken (asked.Apply file) is did help = absurd (none is.0)
   untaken (asked.Entries file source token) is did help = absurd (none is.0)
@@ -35,4 +36,7 @@ module _ {R W F D S : Type 0} {g : disk.Ghosts D} (reader : read.Ghosts R) (read
   untaken (asked.Serve file port count today) is did help = absurd (none is.0)
   untaken (asked.Audit file) is did help = absurd (none is.0)
   untaken (asked.Days file first last told_words) is did help = absurd (none is.0)
-  untaken (asked.Show text) is did help = (did.1, did.2, inl (help refl, (string_bytes text, did.0)))
+  untaken (asked.List file which source after limit) is did help = absurd (none is.0)
+  untaken (asked.Find file names which limit) is did help = absurd (none is.0)
+  untaken (asked.Show file numbers) is did help = absurd (none is.0)
+  untaken (asked.Text text) is did help = (did.1, did.2, inl (help refl, (string_bytes text, did.0)))

@@ -13,6 +13,7 @@ use Rattle.std.specs.Prelude.{
   Err,
   IfErr,
   OnOk,
+  option_map,
   IsSome,
   string_bytes,
 }
@@ -29,22 +30,28 @@ use Rattle.command_line.specs.declared.tasks.Asked.TheVariants.{
   Apply,
   Audit,
   Check,
+  Convert,
   Days,
   Entries,
   Export,
   ExportPublic,
+  Find,
   Import,
   Init,
+  List as ListAsked,
   Norm,
   Serve,
   Sheet,
   Show,
+  Text,
 }
 use Rattle.database_files.specs.Opening.{IsUntouched}
 use Rattle.database_files.specs.declared.left.Left.{Left}
 use Rattle.devices.specs.Devices.{Rose}
 use Rattle.devices.specs.declared.device.Device as device
+use Rattle.parish.specs.Converting.{Converts, set_of}
 use Rattle.parish.specs.Ends.{Checks, Normalises, Shows}
+use Rattle.parish.specs.Lists.{find_task, list_task}
 use Rattle.parish.specs.Rooms.{IsRoomOf, IsSheetOf}
 use Rattle.parish.specs.declared.visits.Visits.{Visits}
 use Rattle.receipts.specs.Tokens.{IsToken}
@@ -59,6 +66,7 @@ use Rattle.tasks.specs.declared.task.Task.TheVariants as task
 -- something may be said on the faults though the work is done
 abbrev pub tells : Asked → Bool
 tells (Apply file) = true
+tells (Convert from) = true
 tells (Import file token progress) = progress
 tells _ = false
 
@@ -120,6 +128,9 @@ module _ {D S R W F : Type 0} {g : disk.Ghosts D} (reader : read.Ghosts R) (read
       HasReadFailed HasWriteFailed) × OpensNothing
   Does Check = Finished (Checks (reader.remaining x.input) (writer.contents x.output) (writer.contents y.output)
       HasReadFailed HasWriteFailed) × OpensNothing
+  Does (Convert from) = Converts (option_map set_of from) (reader.remaining x.input) (writer.contents x.output)
+      (writer.contents y.output) (faulter.contents x.faults) (faulter.contents y.faults) HasReadFailed HasWriteFailed
+      (Rose (fails.failed x.faults) (fails.failed y.faults)) status × OpensNothing
   Does (Init file society) = Finished (Makes image left society.now) × IsUnread × IsUnwritten × (room ≡ None)
   Does (Apply file) = DoesTask task.Apply
   Does (Entries file source token) = DoesUnder token.now (task.Entries token.now source)
@@ -133,7 +144,10 @@ module _ {D S R W F : Type 0} {g : disk.Ghosts D} (reader : read.Ghosts R) (read
       × IsRoomOf port count shown room
   Does (Audit file) = DoesTask task.Audit
   Does (Days file first last words) = DoesTask (task.Days first last words)
-  Does (Show text) = Prints (string_bytes text) × IsUnread × OpensNothing
+  Does (ListAsked file which source after limit) = DoesTask (list_task which source after limit)
+  Does (Find file words which limit) = DoesTask (find_task words which limit)
+  Does (Show file numbers) = DoesTask (task.Show numbers)
+  Does (Text text) = Prints (string_bytes text) × IsUnread × OpensNothing
 
   -- no memory was found to read the words, and nothing is done
   pub record IsWanting : Type 0 where

@@ -1,4 +1,6 @@
+pub mod Converting
 pub mod Doing
 pub mod Ends
+pub mod Lists
 pub mod Rooms
 pub mod Runs

@@ -11,11 +11,15 @@ use Rattle.command_line.specs.declared.tasks.Asked.TheVariants.{
   Entries,
   Export,
   ExportPublic,
+  Find,
   Import,
   Init,
+  List as ListAsked,
   Serve,
   Sheet,
+  Show,
 }
+use Rattle.parish.specs.Lists.{find_task, list_task}
 use Rattle.parish.specs.Rooms.{IsSheetOf}
 use Rattle.program_runs.specs.Runs.{Carries, Stands}
 use Rattle.runs_on_files.specs.Beginning.{idle}
@@ -35,6 +39,9 @@ HasTask (Sheet file which number generations today) t = (page : Page) × IsSheet
 HasTask (Serve file port count today) t = t ≡ Some (task.Library today)
 HasTask (Audit file) t = t ≡ Some task.Audit
 HasTask (Days file first last words) t = t ≡ Some (task.Days first last words)
+HasTask (ListAsked file which source after limit) t = t ≡ Some (list_task which source after limit)
+HasTask (Find file words which limit) t = t ≡ Some (find_task words which limit)
+HasTask (Show file numbers) t = t ≡ Some (task.Show numbers)
 HasTask _ t = t ≡ None
 
 -- a run over the two before, with this input, which wrote this and ended so, leaves the two after

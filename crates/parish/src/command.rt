@@ -27,8 +27,10 @@ ghost use Rattle.runs_on_files.specs.Leaving.{FindsAfter};
 ghost use Rattle.runs_on_files.specs.Seeing.{IsSeen, IsSeenAs};
 
 use crate::archives::{Ended, do_task, enter, make, open_room, take_in};
+use crate::converting::convert;
 use crate::files::{check, norm};
 use crate::laws::what_is_asked_for_loses_nothing;
+use crate::lists::{find_task, list_task};
 use crate::visits::sheet_of;
 use archive_exports::write_text;
 use command_line::{Asked, Refused, read_words};
@@ -49,11 +51,11 @@ const WORDS_REFUSED: u8 = 2;
 /// serves the room then.
 ///
 /// Results go to `output`, a refusal goes to `faults` as one line, and so does what is wrong with a row of `apply` that
-/// is refused, what `audit` finds wrong, and with `--progress` how far an import is. Where `faults` fails too, only the
-/// status says so. Where the words are refused nothing is read, and nothing written elsewhere: what is not taken is
-/// answered on `output` only where it asks for help or for the version. Words that are taken are never refused: what
-/// they name is done, with 0, or 1 and a reason. Of each archive that the file held nothing is lost, however much was
-/// seen of the output and of the end, as soon as the file is closed, or given up in a stop.
+/// is refused, what `audit` finds wrong, with `--progress` how far an import is, and what `convert` did. Where `faults`
+/// fails too, only the status says so. Where the words are refused nothing is read, and nothing written elsewhere: what
+/// is not taken is answered on `output` only where it asks for help or for the version. Words that are taken are never
+/// refused: what they name is done, with 0, or 1 and a reason. Of each archive that the file held nothing is lost,
+/// however much was seen of the output and of the end, as soon as the file is closed, or given up in a stop.
 pub fn command<S: Openable, R: Read + Device, W: Write + Device, F: Write + Device>(
     rt: &HostRuntime,
     words: &[String],
@@ -64,6 +66,7 @@ pub fn command<S: Openable, R: Read + Device, W: Write + Device, F: Write + Devi
 ) -> Ended<S>
     ensures status { result.0 ≤ 2 }
     ensures done { result.0 ≡ 0 → ¬ (AreOf (map string_bytes words.now) (codes "apply"))
+        → ¬ (AreOf (map string_bytes words.now) (codes "convert"))
         → ¬ (AreOfToldImport (map string_bytes words.now)) → faults.new ≡ faults.old }
     ensures words { result.0 ≡ 2 → (input.new ≡ input.old) × (output.new ≡ output.old) × IsUntouched result.1
         × (result.2 ≡ None) }
@@ -122,6 +125,10 @@ fn work<S: Openable, R: Read + Device, W: Write + Device, F: Write + Device>(
             let outcome = check(rt.alloc(), input, output);
             (status_of(outcome, faults), Left::Untouched(start), None)
         }
+        Asked::Convert { from } => {
+            let status = convert(rt.alloc(), from, input, output, faults);
+            (status, Left::Untouched(start), None)
+        }
         Asked::Init { file, society } => {
             let (status, left) = make(rt, file, society, start, faults);
             (status, left, None)
@@ -169,7 +176,30 @@ fn work<S: Openable, R: Read + Device, W: Write + Device, F: Write + Device>(
             let task = Task::Days { first, last, words };
             do_task(rt, file, task, start, input, output, faults)
         }
-        Asked::Show { text } => (
+        Asked::List {
+            file,
+            kind,
+            source,
+            after,
+            limit,
+        } => {
+            let task = list_task(rt.alloc(), kind, source, after, limit);
+            do_task(rt, file, task, start, input, output, faults)
+        }
+        Asked::Find {
+            file,
+            words,
+            kind,
+            limit,
+        } => {
+            let task = find_task(words, kind, limit);
+            do_task(rt, file, task, start, input, output, faults)
+        }
+        Asked::Show { file, numbers } => {
+            let task = Task::Show { numbers };
+            do_task(rt, file, task, start, input, output, faults)
+        }
+        Asked::Text { text } => (
             status_of(show(&text, output), faults),
             Left::Untouched(start),
             None,

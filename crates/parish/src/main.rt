@@ -11,8 +11,10 @@ ghost use Rattle.parish.specs.Rooms.{VisitsEnd};
 
 mod archives;
 mod command;
+mod converting;
 mod files;
 mod laws;
+mod lists;
 mod running;
 mod visits;
 

@@ -2,7 +2,8 @@ use Rattle.std.proofs.Common.{◌≡◌, [], codes, refl, true}
 use Rattle.clap.specs.Words.{Text, fault_of, subcommand_of}
 use Rattle.clap.proofs.OnLiterals.{clap_on_literals}
 use Rattle.jiff_fmt.proofs.OnLiterals.{jiff_fmt_on_literals}
-use Rattle.command_line.specs.Asking.{is_fit, number_of, number_up_to, word_in}
+use Rattle.command_line.specs.Asking.{is_fit, word_in}
+use Rattle.command_line.specs.Meanings.{number_of, number_up_to}
 use Rattle.command_line.specs.Commands.{program}
 use Rattle.command_line.specs.Examples.{serve_words}
 use Rattle.command_line.proofs.laws.a_room_is_taken.Goals as goal

@@ -2,7 +2,8 @@ use Rattle.std.proofs.Common.{◌≡◌, [], codes, refl, true, Some}
 use Rattle.clap.specs.Words.{Text, fault_of, subcommand_of}
 use Rattle.clap.proofs.OnLiterals.{clap_on_literals}
 use Rattle.jiff_fmt.proofs.OnLiterals.{jiff_fmt_on_literals}
-use Rattle.command_line.specs.Asking.{is_fit, generations_in, kind_in, number_of, word_in}
+use Rattle.command_line.specs.Asking.{is_fit, generations_in, kind_in, word_in}
+use Rattle.command_line.specs.Meanings.{number_of}
 use Rattle.command_line.specs.Commands.{program}
 use Rattle.command_line.specs.Examples.{sheet_words}
 use Rattle.command_line.specs.declared.tasks.SheetKind.TheVariants.{Pedigree}

@@ -31,23 +31,29 @@ untold : (progress : Bool) (words : List (List ℕ)) → AreOf words (codes "imp
 untold false words of is no_import = refl
 untold true words of is no_import = absurd (no_import (of, sym is))
 
--- what is asked for says nothing where it is done, but for those two
+-- what is asked for says nothing where it is done, but for those three
 quiet : (a : Asked) (words : List (List ℕ)) → IfSome (name_of a) (λ n. IsTaken words × (command_named words ≡ Some n))
-    → HasWords (subcommand_of program words) a → ¬ (AreOf words (codes "apply")) → ¬ (AreOfToldImport words)
+    → HasWords (subcommand_of program words) a → ¬ (AreOf words (codes "apply")) → ¬ (AreOf words (codes "convert"))
+    → ¬ (AreOfToldImport words)
     → tells a ≡ false
-quiet (asked.Apply file) words of has no_apply no_import = absurd (no_apply of)
-quiet (asked.Import file token progress) words of has no_apply no_import = untold progress words of has.2 no_import
-quiet asked.Norm words of has no_apply no_import = refl
-quiet asked.Check words of has no_apply no_import = refl
-quiet (asked.Init file society) words of has no_apply no_import = refl
-quiet (asked.Entries file source token) words of has no_apply no_import = refl
-quiet (asked.Export file) words of has no_apply no_import = refl
-quiet (asked.ExportPublic file today) words of has no_apply no_import = refl
-quiet (asked.Sheet file which number generations today) words of has no_apply no_import = refl
-quiet (asked.Serve file port count today) words of has no_apply no_import = refl
-quiet (asked.Audit file) words of has no_apply no_import = refl
-quiet (asked.Days file first last told) words of has no_apply no_import = refl
-quiet (asked.Show text) words of has no_apply no_import = refl
+quiet (asked.Apply file) words of has no_apply no_convert no_import = absurd (no_apply of)
+quiet (asked.Import file token progress) words of has no_apply no_convert no_import =
+    untold progress words of has.2 no_import
+quiet (asked.Convert from) words of has no_apply no_convert no_import = absurd (no_convert of)
+quiet asked.Norm words of has no_apply no_convert no_import = refl
+quiet asked.Check words of has no_apply no_convert no_import = refl
+quiet (asked.Init file society) words of has no_apply no_convert no_import = refl
+quiet (asked.Entries file source token) words of has no_apply no_convert no_import = refl
+quiet (asked.Export file) words of has no_apply no_convert no_import = refl
+quiet (asked.ExportPublic file today) words of has no_apply no_convert no_import = refl
+quiet (asked.Sheet file which number generations today) words of has no_apply no_convert no_import = refl
+quiet (asked.Serve file port count today) words of has no_apply no_convert no_import = refl
+quiet (asked.Audit file) words of has no_apply no_convert no_import = refl
+quiet (asked.Days file first last told) words of has no_apply no_convert no_import = refl
+quiet (asked.List file which source after limit) words of has no_apply no_convert no_import = refl
+quiet (asked.Find file names which limit) words of has no_apply no_convert no_import = refl
+quiet (asked.Show file numbers) words of has no_apply no_convert no_import = refl
+quiet (asked.Text text) words of has no_apply no_convert no_import = refl
 
 pub returns-in-Ok-clause-status : goal.returns-in-Ok-clause-status
 returns-in-Ok-clause-status g c =
@@ -64,12 +70,12 @@ returns-in-Ok-clause-words g c = λ two.
     absurd (omega (arith, one, two))
 
 pub returns-in-Ok-clause-done : goal.returns-in-Ok-clause-done
-returns-in-Ok-clause-done g c = λ zero no_apply no_import.
+returns-in-Ok-clause-done g c = λ zero no_apply no_convert no_import.
     does_quietly g.R.Read g.R.Device g.W.Write g.W.Device g.F.Write g.F.Device
     (image_at g.S.Start) _ _ _ _ _ c.in-Ok.asked
     c.work.ensures
     (quiet c.in-Ok.asked (map string_bytes c.args.words.now) c.in-Ok.ensures.asked.0 c.in-Ok.ensures.asked.1
-    no_apply no_import) zero
+    no_apply no_convert no_import) zero
 
 pub returns-in-Ok-clause-does : goal.returns-in-Ok-clause-does
 returns-in-Ok-clause-does g c = λ taken.

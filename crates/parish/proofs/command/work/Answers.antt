@@ -3,7 +3,7 @@ use Rattle.std.proofs.lemmas.Int.{to_z-of_z}
 use Rattle.std.specs.Prelude.{ℤ}
 use Rattle.sqlite_wal.specs.Files.{image_at}
 use Rattle.tasks.specs.declared.task.Task.TheVariants as task
-use Rattle.parish.proofs.Same.{between, library_on, on_day}
+use Rattle.parish.proofs.Same.{between, in_task, library_on, on_day}
 use Rattle.parish.proofs.command.work.Goals as goal
 
 pub returns-in-ExportPublic : goal.returns-in-ExportPublic
@@ -45,4 +45,18 @@ returns-in-Days g c =
     between g.R.Read g.R.Device g.W.Write g.W.Device g.F.Write g.F.Device (image_at g.S.Start) _ _ _ _ _ c.in-Days.words
     _ c.in-Days.first _ c.in-Days.last (to_z-of_z w32 c.in-Days.first fits_first)
     (to_z-of_z w32 c.in-Days.last fits_last) c.do_task-in-Days.ensures
+    )
+
+pub returns-in-List : goal.returns-in-List
+returns-in-List g c =
+    rw c.in-List.is (
+    in_task g.R.Read g.R.Device g.W.Write g.W.Device g.F.Write g.F.Device (image_at g.S.Start) _ _ _ _ _
+    c.list_task-task.result _ c.list_task-task.ensures c.do_task-in-List.ensures
+    )
+
+pub returns-in-Find : goal.returns-in-Find
+returns-in-Find g c =
+    rw c.in-Find.is (
+    in_task g.R.Read g.R.Device g.W.Write g.W.Device g.F.Write g.F.Device (image_at g.S.Start) _ _ _ _ _
+    c.find_task-task.result _ c.find_task-task.ensures c.do_task-in-Find.ensures
     )

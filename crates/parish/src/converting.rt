@@ -1,0 +1,110 @@
+//! `convert`: a GEDCOM file that is the input, in UTF-8.
+
+ghost use Rattle.std.specs.Prelude.{◌≡◌, option_map};
+ghost use Rattle.devices.specs.Devices.{AppendsBeginning, Rose};
+ghost use Rattle.parish.specs.Converting as converting;
+
+use character_sets::CharacterSet;
+use command_line::SetName;
+use conversion_reports::{Unconverted, convert_aloud};
+use file_conversion::ConversionError;
+use gedcom_tree::{Device, write_bytes};
+use record_text::{Refusal, RefusalKind, RefusalText, Unit};
+use std::alloc::Global;
+use std::io::{Read, Write};
+use tasks::{placeless, status_of};
+
+/// The file was converted.
+const DONE: u8 = 0;
+
+/// Writes the lines of the file of the input in UTF-8 on the output, and reports on the faults; gives the exit status.
+/// 29, with a hint: the character set is not known. 27, 94, 95 and 1 as of `conversion_reports::convert_aloud`.
+pub(crate) fn convert<R: Read + Device, W: Write + Device, F: Write + Device>(
+    alloc: Global,
+    from: Option<SetName>,
+    input: &mut R,
+    output: &mut W,
+    faults: &mut F,
+) -> u8
+    ensures { converting.Converts (option_map converting.set_of from) (R.remaining input.old)
+        (W.contents output.old) (W.contents output.new) (F.contents faults.old) (F.contents faults.new)
+        (Rose (R.failed input.old) (R.failed input.new)) (Rose (W.failed output.old) (W.failed output.new))
+        (Rose (F.failed faults.old) (F.failed faults.new)) result }
+{
+    match convert_aloud(alloc, asked(from), input, output, faults) {
+        Ok(_) => DONE,
+        Err(refused) => refuse(&refused, faults),
+    }
+}
+
+/// Prints a refusal and its hint, and gives the exit status.
+fn refuse<F: Write + Device>(refused: &Unconverted, faults: &mut F) -> u8
+    ensures status { result ≡ 1 }
+    ensures printed { converting.Refuses refused.now.error refused.now.hint.items
+        (F.contents faults.old) (F.contents faults.new) }
+{
+    let status = status_of(Err(text_of(refused.error)), faults);
+    print(faults, &refused.hint);
+    status
+}
+
+/// Prints a hint, or a beginning of it where the writer fails.
+fn print<F: Write + Device>(faults: &mut F, hint: &[u8])
+    ensures { AppendsBeginning (F.contents faults.old) (F.contents faults.new) hint.now }
+{
+    let before = faults.failures();
+    let _ = write_bytes(faults, before, hint);
+}
+
+/// Why a file was not converted, as it is printed.
+fn text_of(error: ConversionError) -> RefusalText
+    ensures { result ≡ converting.refusal_of error }
+{
+    match error {
+        ConversionError::OutOfMemory => placeless(RefusalKind::OutOfMemory),
+        ConversionError::ReadFailed => placeless(RefusalKind::ReadFailed),
+        ConversionError::WriteFailed => placeless(RefusalKind::WriteFailed),
+        ConversionError::TooLarge => placeless(RefusalKind::FileTooLarge),
+        ConversionError::UnknownSet(line) => Refusal {
+            kind: RefusalKind::Charset,
+            at: line_at(line),
+        }
+        .text(Unit::Line),
+    }
+}
+
+/// A line as a refusal has it. `None`: it is above the greatest number.
+fn line_at(line: usize) -> Option<u32>
+    ensures { result ≡ converting.line_at line }
+{
+    if line <= u32::MAX as usize {
+        Some(line as u32)
+    } else {
+        None
+    }
+}
+
+/// The character set that is asked for.
+fn asked(from: Option<SetName>) -> Option<CharacterSet>
+    ensures { result ≡ option_map converting.set_of from }
+{
+    match from {
+        Some(name) => Some(set_of(name)),
+        None => None,
+    }
+}
+
+fn set_of(name: SetName) -> CharacterSet
+    ensures { result ≡ converting.set_of name }
+{
+    match name {
+        SetName::Utf8 => CharacterSet::Utf8,
+        SetName::Utf16Le => CharacterSet::Utf16Le,
+        SetName::Utf16Be => CharacterSet::Utf16Be,
+        SetName::Windows1252 => CharacterSet::Windows1252,
+        SetName::CodePage437 => CharacterSet::CodePage437,
+        SetName::CodePage850 => CharacterSet::CodePage850,
+        SetName::Macintosh => CharacterSet::Macintosh,
+        SetName::Ansel => CharacterSet::Ansel,
+    }
+}

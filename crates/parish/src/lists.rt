@@ -1,0 +1,75 @@
+//! The tasks of `list` and `find`.
+
+ghost use Rattle.std.specs.Prelude.{◌≡◌};
+ghost use Rattle.parish.specs.Lists as lists;
+
+use command_line::RecordKind;
+use finding::{Kind, Wanted};
+use search_keys::SearchWords;
+use std::alloc::Global;
+use tasks::Task;
+
+/// `list`: the records of a kind after a number, of register entries those of a source where one is given.
+pub(crate) fn list_task(
+    alloc: Global,
+    kind: RecordKind,
+    source: Option<u32>,
+    after: u32,
+    limit: Option<u32>,
+) -> Task
+    ensures { result ≡ lists.list_task kind source after limit }
+{
+    Task::List {
+        wanted: Wanted {
+            kind: Some(kind_of(kind)),
+            source,
+            words: SearchWords::new(alloc),
+        },
+        after,
+        limit: limit_of(limit),
+    }
+}
+
+/// `find`: the records, of a kind where one is given, with a name in which the words occur.
+pub(crate) fn find_task(words: SearchWords, kind: Option<RecordKind>, limit: Option<u32>) -> Task
+    ensures { result ≡ lists.find_task words kind limit }
+{
+    let kind = match kind {
+        Some(kind) => Some(kind_of(kind)),
+        None => None,
+    };
+    Task::List {
+        wanted: Wanted {
+            kind,
+            source: None,
+            words,
+        },
+        after: 0,
+        limit: limit_of(limit),
+    }
+}
+
+fn limit_of(limit: Option<u32>) -> usize
+    ensures { result ≡ lists.limit_of limit }
+{
+    match limit {
+        Some(limit) => limit as usize,
+        None => usize::MAX,
+    }
+}
+
+fn kind_of(kind: RecordKind) -> Kind
+    ensures { result ≡ lists.kind_of kind }
+{
+    match kind {
+        RecordKind::Persons => Kind::Persons,
+        RecordKind::Families => Kind::Families,
+        RecordKind::Events => Kind::Events,
+        RecordKind::Places => Kind::Places,
+        RecordKind::Repositories => Kind::Repositories,
+        RecordKind::Sources => Kind::Sources,
+        RecordKind::Citations => Kind::Citations,
+        RecordKind::Entries => Kind::Entries,
+        RecordKind::Others => Kind::Others,
+    }
+}

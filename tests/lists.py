@@ -1,0 +1,343 @@
+"""`list`, `find` and `show` by the executable: which records there are, and what is told of each, with nothing masked.
+What is expected was written by hand from docs/FORMATS.md."""
+
+from __future__ import annotations
+
+import os
+import sqlite3
+
+from ends import each_growth_refused, left_by_its_reader, refused_as_no_archive
+from harness import Case, Tools, demand, expect, pipe_without_reader, refused, run, written
+from imports import Imported
+from table.making import between
+
+# Rows of a new archive, which are its records 1 to 12. The event 7 is the birth of somebody who may be living.
+ROWS = (
+    "a,person,Ann /Müller/,F", "b,person,Tom /O’Neil/,M", "c,person,Jean /van der Berg/,", "d,family,2,1",
+    "e,child,4,3", "f,place,Kent,", "g,place,Ashby,5", "h,event,3,BIRT,,3 MAR 2015,6", "i,event,4,MARR,,,",
+    "j,repo,Müller Archive", "k,source,Register of Ashby,Rev. Lee,,9,R 7", "l,citation,7,10,f. 3,2",
+    'm,entry,10,BURIAL,f. 3,4,1 MAY 1860,6,"Ann of Ashby\nburied",buried,Ann Müller,spouse,Tom',
+    "n,link,12,1,1,same farm", "o,participant,7,2,witness",
+)
+LINES = {
+    1: "person  Ann Müller",
+    2: "person  Tom O’Neil",
+    3: "person  Jean van der Berg",
+    4: "family  husband 2  wife 1  child 3",
+    5: "place  Kent",
+    6: "place  Ashby",
+    7: "event  BIRT  3 MAR 2015  of 3",
+    8: "event  MARR  of 4",
+    9: "repository  Müller Archive",
+    10: "source  Register of Ashby",
+    11: "citation  of 7  source 10, page f. 3",
+    12: "entry  source 10  page f. 3  no. 4  BURIAL  1 MAY 1860",
+}
+# Of each record its fields, the numbers that they name, and the numbers of the records that name it.
+SHOWN = {
+    1: ("name: Ann /Müller/\nsex: F\n", (), (4, 12)),
+    2: ("name: Tom /O’Neil/\nsex: M\n", (), (4, 7)),
+    3: ("name: Jean /van der Berg/\n", (), (4, 7)),
+    4: ("husband: 2\nwife: 1\nchild: 3\n", (2, 1, 3), (8,)),
+    5: ("name: Kent\n", (), (6,)),
+    6: ("name: Ashby\nwithin: 5\n", (5,), (7, 12)),
+    7: ("of: 3\ntag: BIRT\nvalue: \ndate: 3 MAR 2015\nplace: 6\nwith: 2\nrole: witness\n", (3, 6, 2), (11,)),
+    8: ("of: 4\ntag: MARR\nvalue: \n", (4,), ()),
+    9: ("name: Müller Archive\n", (), (10,)),
+    10: ("title: Register of Ashby\nauthor: Rev. Lee\nrepository: 9\ncall number: R 7\n", (9,), (11, 12)),
+    11: ("of: 7\nsource: 10\npage: f. 3\nquality: 2\n", (7, 10), ()),
+    12: ("source: 10\nkind: BURIAL\npage: f. 3\nitem: 4\ndate: 1 MAY 1860\nplace: 6\ntext: Ann of Ashby buried\n"
+         "buried: Ann Müller\nperson: 1\nreason: same farm\nspouse: Tom\n", (10, 6, 1), ()),
+}
+LISTED = (
+    (("persons",), (1, 2, 3)),
+    (("families",), (4,)),
+    (("events",), (7, 8)),
+    (("places",), (5, 6)),
+    (("repositories",), (9,)),
+    (("sources",), (10,)),
+    (("citations",), (11,)),
+    (("entries",), (12,)),
+    (("others",), ()),
+    (("persons", "--after", "0"), (1, 2, 3)),
+    (("persons", "--after", "1"), (2, 3)),
+    (("persons", "--after", "3"), ()),
+    (("persons", "--after", "4294967295"), ()),
+    (("persons", "--limit", "2"), (1, 2)),
+    (("persons", "--limit", "3"), (1, 2, 3)),
+    (("persons", "--limit", "4294967295"), (1, 2, 3)),
+    (("persons", "--after", "1", "--limit", "1"), (2,)),
+    (("entries", "--source", "10"), (12,)),
+    (("entries", "--source", "9"), ()),
+    (("entries", "--source", "10", "--after", "12"), ()),
+)
+FOUND = (
+    (("muller",), (1, 9, 12)),
+    (("Müller",), (1, 9, 12)),
+    (("MU\u0308LLER",), (1, 9, 12)),
+    (("mull",), (1, 9, 12)),
+    (("uller",), ()),
+    (("ann", "muller"), (1, 12)),
+    (("muller", "ann"), (1, 12)),
+    (("ann muller",), (1, 12)),
+    (("muller", "archive"), (9,)),
+    (("oneil",), (2,)),
+    (("neil",), (2,)),
+    (("O'Neil",), (2,)),
+    (("tom",), (2, 12)),
+    (("berg",), (3,)),
+    (("van", "berg"), (3,)),
+    (("ashby",), (6, 10)),
+    (("of", "register"), (10,)),
+    (("lee",), ()),
+    (("burial",), ()),
+    (("muller", "--kind", "persons"), (1,)),
+    (("muller", "--kind", "repositories"), (9,)),
+    (("muller", "--kind", "entries"), (12,)),
+    (("muller", "--kind", "families"), ()),
+    (("muller", "--limit", "2"), (1, 9)),
+    (("muller", "--kind", "entries", "--limit", "1"), (12,)),
+)
+# A file whose records are 1 to 3 of a new archive, with lines that no field takes.
+CARRIED = between("0 @I1@ INDI", "1 NAME Ann /Lee/", "2 NICK Annie", "1 ASSO @I2@", "2 RELA aunt", "0 @I2@ INDI",
+                  "0 OBJE @I1@", "1 FILE a.png")
+CARRIED_SHOWN = {
+    1: "1  person  Ann Lee\nname: Ann /Lee/\n2 NICK Annie\n1 ASSO @2@\n2 RELA aunt\nnamed by: 3  other  OBJE\n",
+    2: "2  person  ?\nnamed by: 1  person  Ann Lee\n",
+    3: "3  other  OBJE\ntag: OBJE\nvalue: 1\n1 FILE a.png\n",
+}
+NO_NUMBERS = ("0", "x", "", "4294967296", "1.0", "-1", "99999999999")
+NO_KINDS = ("people", "Persons", "", "person", "slips")
+NO_KEYS = ("'", "-", "", " ", "’", "/")
+WORDS = (
+    ("list",), ("list", "FILE"), ("list", "persons"), ("list", "FILE", "persons", "places"),
+    ("find",), ("find", "FILE"), ("show",), ("show", "FILE"),
+    ("list", "FILE", "persons", "--today", "2024-01-01"),
+    ("list", "FILE", "persons", "--limit", "1", "--limit", "2"),
+    ("list", "FILE", "persons", "--source", "10"),
+    ("find", "FILE", "ann", "--after", "1"),
+    *(("list", "FILE", kind) for kind in NO_KINDS),
+    *(("find", "FILE", "ann", "--kind", kind) for kind in NO_KINDS),
+    *(("list", "FILE", "persons", "--limit", number) for number in NO_NUMBERS),
+    *(("list", "FILE", "persons", "--after", number) for number in NO_NUMBERS[1:]),
+    *(("list", "FILE", "entries", "--source", number) for number in NO_NUMBERS),
+    *(("find", "FILE", "ann", "--limit", number) for number in NO_NUMBERS),
+    *(("find", "FILE", word) for word in NO_KEYS),
+    *(("find", "FILE", "ann", word) for word in NO_KEYS),
+    *(("show", "FILE", number) for number in NO_NUMBERS),
+    *(("show", "FILE", "1", number) for number in NO_NUMBERS),
+)
+
+
+def line(number):
+    return f"{number}  {LINES[number]}\n"
+
+
+def listed(numbers):
+    return written("".join(map(line, numbers)).encode())
+
+
+def whole(number):
+    fields, names, named_by = SHOWN[number]
+    named = "".join(f"names: {line(n)}" for n in names) + "".join(f"named by: {line(n)}" for n in named_by)
+    return line(number) + fields + named
+
+
+class Listed(Imported):
+    """A folder with an archive that is looked over by whoever keeps it."""
+
+    def list(self, *words, **how):
+        return run(self.parish, ("list", self.file, *words), b"", **how)
+
+    def find(self, *words, **how):
+        return run(self.parish, ("find", self.file, *words), b"", **how)
+
+    def show(self, *numbers, **how):
+        return run(self.parish, ("show", self.file, *map(str, numbers)), b"", **how)
+
+    def persons(self, **how):
+        return self.list("persons", **how)
+
+    def anns(self, **how):
+        return self.find("ann", **how)
+
+    def first(self, **how):
+        return self.show(1, **how)
+
+
+def lists_by_hand(tools):
+    with Listed(tools) as at:
+        before = at.with_rows(ROWS).tables()
+        for words, numbers in LISTED:
+            expect(at.list(*words), listed(numbers))
+        demand(at.tables() == before, "the tables changed")
+
+
+def searches_by_hand(tools):
+    with Listed(tools) as at:
+        before = at.with_rows(ROWS).tables()
+        for words, numbers in FOUND:
+            expect(at.find(*words), listed(numbers))
+        demand(at.tables() == before, "the tables changed")
+
+
+def records_by_hand(tools):
+    with Listed(tools) as at:
+        before = at.with_rows(ROWS).tables()
+        for number in LINES:
+            expect(at.show(number), written(whole(number).encode()))
+        for numbers in ((3, 1), (7, 7), tuple(LINES)):
+            expect(at.show(*numbers), written("\n".join(map(whole, numbers)).encode()))
+        demand(at.tables() == before, "the tables changed")
+
+
+def lines_that_no_field_takes(tools):
+    with Listed(tools) as at:
+        expect(at.made().import_(CARRIED), written(b"imported 3 records, first 1\n"))
+        for number, text in CARRIED_SHOWN.items():
+            expect(at.show(number), written(text.encode()))
+        expect(at.list("others"), written(b"3  other  OBJE\n"))
+
+
+def nobody_is_masked(tools):
+    """A sheet of the same person on the same day says no name."""
+    with Listed(tools) as at:
+        at.with_rows(ROWS)
+        sheet = run(tools.parish, ("sheet", at.file, "person", "3", "--today", "2024-01-01"))
+        demand(b"Name: Living\n" in sheet.out and b"Jean" not in sheet.out, f"{sheet}")
+        expect(at.find("jean"), listed((3,)))
+        expect(at.show(3), written(whole(3).encode()))
+
+
+def characters_that_are_not_printed(tools):
+    """Control characters, and those that turn the direction of a text, are spaces; a line is one line."""
+    with Listed(tools) as at:
+        at.with_rows(('a,person,"Ann\nB. /Lee/",', "b,source,A\u202eB\tC\u2069D\x7fE\x85F,,,,"))
+        expect(at.list("persons"), written(b"1  person  Ann B. Lee\n"))
+        expect(at.list("sources"), written(b"2  source  A B C D E F\n"))
+        expect(at.show(1), written(b"1  person  Ann B. Lee\nname: Ann B. /Lee/\n"))
+        expect(at.show(2), written(b"2  source  A B C D E F\ntitle: A B C D E F\n"))
+
+
+def an_archive_without_records(tools):
+    with Listed(tools) as at:
+        at.made()
+        expect(at.persons(), written(b""))
+        expect(at.anns(), written(b""))
+        expect(at.first(), refused(50))
+
+
+def page_by_page(tools):
+    """Each page begins after the last number of the one before; all of them together are the whole list."""
+    with Listed(tools) as at:
+        at.with_rows(tuple(row for n in range(700) for row in (f"p{n},person,Ann /Lee{n % 7}/,", f"q{n},place,Ashby,")))
+        whole_list, got, after = at.persons().out, b"", 0
+        demand(whole_list == b"".join(b"%d  person  Ann Lee%d\n" % (2 * n + 1, n % 7) for n in range(700)), "the list")
+        while page := at.list("persons", "--after", str(after), "--limit", "300").out:
+            demand(page.count(b"\n") <= 300, "a page is too long")
+            after, got = int(page.splitlines()[-1].split()[0]), got + page
+        demand(got == whole_list, "the pages are not the list")
+        numbers = [int(it.split()[0]) for it in at.find("lee3").out.splitlines()]
+        demand(numbers == [2 * n + 1 for n in range(3, 700, 7)], f"{numbers}")
+
+
+def what_is_removed_and_merged(tools):
+    """50 for what is removed, for who is gone, and for a slip, which is no record; and nothing is written."""
+    with Listed(tools) as at:
+        at.with_rows(("a,person,Ann /Lee/,F", "b,person,Anna /Lee/,F", "c,place,Kent,"))
+        answers = at.apply(b"m,merge,1,2\nr,remove,3\n").out
+        demand(answers == b"m,ok,4,1\nr,ok,0,0\n", f"{answers!r}")
+        for number in (2, 3, 4, 5, 4_294_967_295):
+            expect(at.show(number), refused(50))
+            expect(at.show(1, number), refused(50))
+            expect(at.show(number, 1), refused(50))
+        expect(at.list("persons"), written(b"1  person  Ann Lee\n"))
+
+
+def words_that_are_refused(tools):
+    """Status 2 with a text on standard error; no file is made or opened."""
+    with Listed(tools) as at:
+        for words in WORDS:
+            got = run(tools.parish, [at.file if word == "FILE" else word for word in words])
+            demand((got.status, got.out) == (2, b"") and got.err != b"", f"{words}: {got}")
+        demand(not os.listdir(at.path), "a file was made")
+
+
+def no_archive(tools):
+    refused_as_no_archive(Listed, tools, Listed.persons, Listed.anns, Listed.first)
+
+
+def lines_of_no_record(tools):
+    """40 where somebody else has spoilt a record that is looked at, and nothing is written; others are shown."""
+    with Listed(tools) as at:
+        at.with_rows(ROWS).other_database("UPDATE line SET tag = 'frob' WHERE no = 2")
+        expect(at.persons(), refused(40))
+        expect(at.anns(), refused(40))
+        expect(at.show(2), refused(40))
+        expect(at.show(5, 2), refused(40))
+        expect(at.show(5), written(whole(5).encode()))
+
+
+def outputs_that_fail(tools):
+    """95: a full device, and readers that left or leave in the middle; the archive is as it was."""
+    with Listed(tools) as at:
+        long = "x" * 4_000
+        rows = (f"e{n},event,1,RESI,{long},{1700 + n}," for n in range(200))
+        before = at.with_rows((f"a,person,Ann {long},F", *rows)).tables()
+        numbers = range(1, 202)
+        text = at.show(*numbers).out
+        demand(len(text) > 800_000, f"{len(text)} bytes")
+        for call in (at.persons, at.anns, at.first):
+            with open("/dev/full", "wb") as full:
+                expect(call(stdout=full), refused(95))
+            with pipe_without_reader() as writing:
+                expect(call(stdout=writing), refused(95))
+        words = ["show", at.file, *map(str, numbers)]
+        demand(text.startswith(left_by_its_reader([*at.parish, *words])), "no beginning")
+        expect(at.show(*numbers), written(text))
+        demand(at.tables() == before, "the tables changed")
+
+
+def refused_memory(tools):
+    """1, or 80 where the database wanted it, after a beginning; and the archive is as it was."""
+    with Listed(tools) as at:
+        before = at.with_rows(ROWS).tables()
+        each_growth_refused(at, at.persons, at.anns, lambda **how: at.show(12, 7, **how))
+        demand(at.tables() == before, "the tables changed")
+
+
+def another_program_has_it(tools):
+    with Listed(tools) as at:
+        at.with_rows(ROWS)
+        conn = sqlite3.connect(at.file, isolation_level=None)
+        try:
+            conn.execute("BEGIN EXCLUSIVE")
+            for call in (at.persons, at.anns, at.first):
+                expect(call(), refused(80))
+        finally:
+            conn.close()
+        expect(at.persons(), listed((1, 2, 3)))
+
+
+TESTS = (
+    lists_by_hand,
+    searches_by_hand,
+    records_by_hand,
+    lines_that_no_field_takes,
+    nobody_is_masked,
+    characters_that_are_not_printed,
+    an_archive_without_records,
+    page_by_page,
+    what_is_removed_and_merged,
+    words_that_are_refused,
+    no_archive,
+    lines_of_no_record,
+    outputs_that_fail,
+    refused_memory,
+    another_program_has_it,
+)
+
+
+def cases(tools: Tools):
+    for test in TESTS:
+        yield Case(f"lists: {test.__name__.replace('_', ' ')}", lambda test=test: test(tools))
