@@ -48,19 +48,33 @@ impl<F: ArchiveFiles> Archives<F> {
         let mut outcomes = Vec::new(alloc);
         let mut rows = Vec::new(alloc);
         for request in requests {
-            self.note(alloc, request)?;
-            let Some(outcome) = self.outcome(alloc, request) else {
+            if !self.run_one(alloc, request, &mut outcomes, &mut rows)? {
                 return word(alloc, "differs");
-            };
-            let row = outcome_row(alloc, request.token.as_str(), outcome)?;
-            rows.extend_from_slice(row.as_slice())?;
-            outcomes.push(outcome)?;
+            }
         }
         if self.agrees(alloc, Asked::Run(requests), &outcomes)? {
             Ok(rows)
         } else {
             word(alloc, "differs")
         }
+    }
+
+    /// Adds the outcome of a request in both archives in memory, and its row. `false`: they differ.
+    fn run_one(
+        &mut self,
+        alloc: Global,
+        request: &Request,
+        outcomes: &mut Vec<Outcome>,
+        rows: &mut Vec<u8>,
+    ) -> Result<bool, AllocError> {
+        self.note(alloc, request)?;
+        let Some(outcome) = self.outcome(alloc, request) else {
+            return Ok(false);
+        };
+        outcomes.push(outcome)?;
+        let row = outcome_row(alloc, request.token.as_str(), outcome)?;
+        rows.extend_from_slice(row.as_slice())?;
+        Ok(true)
     }
 
     /// The outcome of a request in both archives in memory. `None`: they differ.

@@ -20,7 +20,6 @@ pub enum Asked<'a> {
 }
 
 /// What became of a visit to an archive.
-#[derive(Drop)]
 pub enum Reply {
     /// Its files could not be opened.
     Unopened,
@@ -31,10 +30,53 @@ pub enum Reply {
     Told(Told),
 }
 
+impl Drop for Reply {
+    fn drop(self) {
+        match self {
+            Reply::Unopened => {}
+            Reply::Unaltered => {}
+            Reply::Unadopted(_) => {}
+            Reply::Told(_told) => {}
+        }
+    }
+}
+
+impl Reply {
+    /// The society that was read, or why none was.
+    pub(crate) fn into_society(self) -> Result<Text, RefusalKind> {
+        match self {
+            Reply::Told(told) => told.into_society(),
+            Reply::Unadopted(kind) => Err(kind),
+            Reply::Unopened => Err(RefusalKind::Storage),
+            Reply::Unaltered => Err(RefusalKind::Storage),
+        }
+    }
+}
+
 /// What an archive answered.
-#[derive(Drop)]
 pub struct Told {
     pub outcomes: Vec<Outcome>,
     pub state: Result<State, RefusalKind>,
     pub society: Result<Text, RefusalKind>,
+}
+
+impl Drop for Told {
+    fn drop(self) {
+        let Told {
+            outcomes: _,
+            state: _,
+            society: _,
+        } = self;
+    }
+}
+
+impl Told {
+    fn into_society(self) -> Result<Text, RefusalKind> {
+        let Told {
+            outcomes: _,
+            state: _,
+            society,
+        } = self;
+        society
+    }
 }

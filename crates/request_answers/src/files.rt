@@ -101,3 +101,15 @@ pub struct Visits<F: Drop> {
     pub second: Reply,
     pub left: F,
 }
+
+impl<F: Drop> Visits<F> {
+    /// What both visits answered.
+    pub(crate) fn into_replies(self) -> (Reply, Reply) {
+        let Visits {
+            first,
+            second,
+            left: _,
+        } = self;
+        (first, second)
+    }
+}

@@ -44,10 +44,11 @@ impl<F: ArchiveFiles> Kept<F> {
         wanted: &[Outcome],
         state: &State,
     ) -> Result<bool, AllocError> {
-        let (first, second) = self.visit_again(alloc, Fuses::none(), asked, Asked::Nothing)?;
         let shown = picture(alloc, state, &self.tokens)?;
-        let is_first = has_told(alloc, &first, wanted, &shown, &self.tokens)?;
-        Ok(is_first && has_told(alloc, &second, &[], &shown, &self.tokens)?)
+        let (first, second) = self.visit_again(alloc, Fuses::none(), asked, Asked::Nothing)?;
+        let first = has_told(alloc, first, wanted, &shown, &self.tokens);
+        let second = has_told(alloc, second, &[], &shown, &self.tokens);
+        Ok(first? && second?)
     }
 
     /// Asks the archive in files that may fail. What is left in them is kept.
@@ -84,35 +85,21 @@ impl<F: ArchiveFiles> Kept<F> {
         let (reply, _) = self
             .images
             .visit_once(alloc, Fuses::none(), Asked::Nothing)?;
-        Ok(society_in(reply))
-    }
-}
-
-fn society_in(reply: Reply) -> Result<Text, RefusalKind> {
-    match reply {
-        Reply::Told(
-            Told {
-                outcomes: _,
-                state: _,
-                society,
-            },
-        ) => society,
-        Reply::Unadopted(kind) => Err(kind),
-        Reply::Unopened | Reply::Unaltered => Err(RefusalKind::Storage),
+        Ok(reply.into_society())
     }
 }
 
 /// Whether an archive answered with these outcomes, and showed this.
 fn has_told(
     alloc: Global,
-    reply: &Reply,
+    reply: Reply,
     wanted: &[Outcome],
     shown: &[u8],
     tokens: &[Token],
 ) -> Result<bool, AllocError> {
-    match reply {
-        Reply::Told(told) => {
-            Ok(are_equal(&told.outcomes, wanted) && shows(alloc, told, shown, tokens)?)
+    match &reply {
+        Reply::Told(told) if are_equal(&told.outcomes, wanted) => {
+            shows(alloc, told, shown, tokens)
         }
         _ => Ok(false),
     }

@@ -4,7 +4,7 @@ use crate::archives::Archives;
 use crate::asked::{Asked, Reply};
 use crate::files::{ArchiveFiles, Fuses};
 use crate::kept::Kept;
-use crate::stops::stop_asked_row;
+use crate::stops::stop_row;
 use crate::words::Words;
 use archive_core::Request;
 use records::RefusalKind;
@@ -119,7 +119,14 @@ fn stop_steps_row<F: ArchiveFiles>(
 ) -> Result<Vec<u8>, AllocError> {
     let names = names_of(alloc, names)?;
     let asked = Asked::Steps(names.as_slice(), requests);
-    stop_asked_row(alloc, archives, fuses, requests, asked)
+    stop_row(
+        alloc,
+        archives,
+        fuses,
+        requests,
+        asked,
+        Asked::Run(requests),
+    )
 }
 
 /// The names of steps, with bars between them.

@@ -1,7 +1,7 @@
 //! Stops: a file fails from some call on, and what is found when the archive is opened again.
 
 use crate::archives::Archives;
-use crate::asked::{Asked, Reply};
+use crate::asked::{Asked, Reply, Told};
 use crate::files::{ArchiveFiles, Fuses};
 use crate::kept::Kept;
 use crate::words::Words;
@@ -25,13 +25,11 @@ impl Around {
         requests: &[Request],
     ) -> Result<Around, AllocError> {
         let mut stepped = copy(alloc, state, tokens)?;
-        let mut pictures = Vec::new(alloc);
-        pictures.push(picture(alloc, &stepped, tokens)?)?;
-        for request in requests {
-            drop(step(alloc, &mut stepped, request));
-            pictures.push(picture(alloc, &stepped, tokens)?)?;
-        }
-        Ok(Around { pictures })
+        let pictures = pictures_of(alloc, &mut stepped, tokens, requests);
+        drop(stepped);
+        Ok(Around {
+            pictures: pictures?,
+        })
     }
 
     /// Says how many requests are done in a state, the most that it can be: `before`, `after`, or a number of the
@@ -71,31 +69,45 @@ impl Around {
         found
     }
 
-    /// The row with what two visits behind the first answered and found.
-    fn into_row(
-        self,
+    /// Opens files again, asks the archive once more, and says what both visits answered and found.
+    fn say_visits<F: ArchiveFiles>(
+        &self,
         alloc: Global,
-        first: &Reply,
-        second: &Reply,
+        left: F,
         tokens: &[Token],
-        mut words: Words,
-    ) -> Result<Vec<u8>, AllocError> {
-        self.say_found(alloc, first, tokens, &mut words)?;
-        self.say_found(alloc, second, tokens, &mut words)?;
-        words.into_row()
+        again: Asked<'_>,
+        words: &mut Words,
+    ) -> Result<(), AllocError> {
+        let visits = left.visit_twice(alloc, Fuses::none(), Asked::Nothing, again);
+        drop(left);
+        let (first, second) = visits?.into_replies();
+        let said = self.say_found(alloc, first, tokens, words);
+        let said_again = self.say_found(alloc, second, tokens, words);
+        said?;
+        said_again
     }
 
     /// Says the outcomes of a visit, and how many requests it found done then.
     fn say_found(
         &self,
         alloc: Global,
-        reply: &Reply,
+        reply: Reply,
         tokens: &[Token],
         words: &mut Words,
     ) -> Result<(), AllocError> {
-        let Reply::Told(told) = reply else {
-            return words.say_reply(alloc, reply);
-        };
+        match &reply {
+            Reply::Told(told) => self.say_told(alloc, told, tokens, words),
+            _ => words.say_reply(alloc, &reply),
+        }
+    }
+
+    fn say_told(
+        &self,
+        alloc: Global,
+        told: &Told,
+        tokens: &[Token],
+        words: &mut Words,
+    ) -> Result<(), AllocError> {
         words.say_outcomes(alloc, told)?;
         match &told.state {
             Ok(state) => self.say(alloc, state, tokens, words),
@@ -104,33 +116,39 @@ impl Around {
     }
 }
 
-/// One request, twice, on the archive in files that fail: what it answered; what is found when it is opened again; and
-/// what is answered and found when it is asked once more.
-pub(crate) fn stop_row<F: ArchiveFiles>(
+/// What is shown of a state that requests change, before them and after each.
+fn pictures_of(
     alloc: Global,
-    kept: &Kept<F>,
-    state: &State,
-    fuses: Fuses,
-    request: Request,
-) -> Result<Vec<u8>, AllocError> {
-    let requests = [request];
-    let twice = Asked::Perform(&requests[0], 2);
-    let again = Asked::Perform(&requests[0], 1);
-    stopped_row(alloc, kept, state, fuses, &requests, twice, again)
+    stepped: &mut State,
+    tokens: &[Token],
+    requests: &[Request],
+) -> Result<Vec<Vec<u8>>, AllocError> {
+    let mut pictures = Vec::new(alloc);
+    push(&mut pictures, picture(alloc, stepped, tokens))?;
+    for request in requests {
+        drop(step(alloc, stepped, request));
+        push(&mut pictures, picture(alloc, stepped, tokens))?;
+    }
+    Ok(pictures)
 }
 
-/// The same of requests in one call, or of the steps of an import, with these requests in one call once more.
-pub(crate) fn stop_asked_row<F: ArchiveFiles>(
+fn push(pictures: &mut Vec<Vec<u8>>, shown: Result<Vec<u8>, AllocError>) -> Result<(), AllocError> {
+    Ok(pictures.push(shown?)?)
+}
+
+/// What requests are asked as, on the archive in files that fail: what is answered; what is found when it is opened
+/// again; and what is answered and found when they are asked as `again`.
+pub(crate) fn stop_row<F: ArchiveFiles>(
     alloc: Global,
     archives: &mut Archives<F>,
     fuses: Fuses,
     requests: &[Request],
     asked: Asked<'_>,
+    again: Asked<'_>,
 ) -> Result<Vec<u8>, AllocError> {
     for request in requests {
         archives.note(alloc, request)?;
     }
-    let again = Asked::Run(requests);
     match &archives.kept {
         Some(kept) => {
             let state = &archives.decided;
@@ -150,17 +168,25 @@ fn stopped_row<F: ArchiveFiles>(
     again: Asked<'_>,
 ) -> Result<Vec<u8>, AllocError> {
     let around = Around::of(alloc, state, &kept.tokens, requests)?;
-    let (reply, left) = kept.images.visit_once(alloc, fuses, asked)?;
-    let words = stop_words(alloc, &reply)?;
-    let visits = left.visit_twice(alloc, Fuses::none(), Asked::Nothing, again)?;
-    around.into_row(alloc, &visits.first, &visits.second, &kept.tokens, words)
+    let mut words = Words::new(alloc, "stop")?;
+    let left = say_stopped(alloc, kept, fuses, asked, &mut words)?;
+    around.say_visits(alloc, left, &kept.tokens, again, &mut words)?;
+    words.into_row()
 }
 
-/// A row that begins with what a visit answered.
-fn stop_words(alloc: Global, reply: &Reply) -> Result<Words, AllocError> {
-    let mut words = Words::new(alloc, "stop")?;
-    words.say_reply(alloc, reply)?;
-    Ok(words)
+/// Says what a visit to files that fail answered. What is left in them.
+fn say_stopped<F: ArchiveFiles>(
+    alloc: Global,
+    kept: &Kept<F>,
+    fuses: Fuses,
+    asked: Asked<'_>,
+    words: &mut Words,
+) -> Result<F, AllocError> {
+    let (reply, left) = kept.images.visit_once(alloc, fuses, asked)?;
+    let said = words.say_reply(alloc, &reply);
+    drop(reply);
+    said?;
+    Ok(left)
 }
 
 /// The making of an archive in empty files that fail: what it answered; whether the files are found `empty` or with the
@@ -171,20 +197,22 @@ pub(crate) fn stop_create_row<F: ArchiveFiles>(
     society: &str,
 ) -> Result<Vec<u8>, AllocError> {
     let mut words = Words::new(alloc, "stop")?;
-    let left = made_in(alloc, &F::empty(alloc), fuses, society, &mut words)?;
-    made_in(alloc, &left, Fuses::none(), society, &mut words)?;
+    let left = made_in(alloc, F::empty(alloc), fuses, society, &mut words)?;
+    drop(made_in(alloc, left, Fuses::none(), society, &mut words)?);
     words.into_row()
 }
 
 /// Makes an archive in files, says what was answered and found, and answers the files that it left.
 fn made_in<F: ArchiveFiles>(
     alloc: Global,
-    images: &F,
+    images: F,
     fuses: Fuses,
     society: &str,
     words: &mut Words,
 ) -> Result<F, AllocError> {
-    let (made, left) = images.make(alloc, fuses, society)?;
+    let made = images.make(alloc, fuses, society);
+    drop(images);
+    let (made, left) = made?;
     say_made(alloc, made, words)?;
     say_new(alloc, &left, society, words)?;
     Ok(left)
@@ -210,12 +238,23 @@ fn say_new<F: ArchiveFiles>(
     words: &mut Words,
 ) -> Result<(), AllocError> {
     let (reply, _) = images.visit_once(alloc, Fuses::none(), Asked::Nothing)?;
-    match &reply {
+    let said = say_new_as(alloc, &reply, society, words);
+    drop(reply);
+    said
+}
+
+fn say_new_as(
+    alloc: Global,
+    reply: &Reply,
+    society: &str,
+    words: &mut Words,
+) -> Result<(), AllocError> {
+    match reply {
         Reply::Unadopted(RefusalKind::NotAnArchive) => words.say("empty"),
-        _ if is_new(alloc, &reply, society)? => words.say("new"),
+        _ if is_new(alloc, reply, society)? => words.say("new"),
         _ => {
             words.say("else")?;
-            words.say_reply(alloc, &reply)
+            words.say_reply(alloc, reply)
         }
     }
 }
@@ -227,6 +266,14 @@ fn is_new(alloc: Global, reply: &Reply, society: &str) -> Result<bool, AllocErro
     let (Ok(state), Ok(text)) = (&told.state, &told.society) else {
         return Ok(false);
     };
-    let empty = picture(alloc, &State::new(alloc), &[])?;
-    Ok(text.as_str() == society && picture(alloc, state, &[])?.as_slice() == empty.as_slice())
+    Ok(text.as_str() == society && is_empty(alloc, state)?)
+}
+
+/// Whether a state shows what a new one shows.
+fn is_empty(alloc: Global, state: &State) -> Result<bool, AllocError> {
+    let shown = picture(alloc, state, &[])?;
+    let new = State::new(alloc);
+    let empty = picture(alloc, &new, &[]);
+    drop(new);
+    Ok(shown.as_slice() == empty?.as_slice())
 }

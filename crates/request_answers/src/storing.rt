@@ -1,11 +1,11 @@
 //! The rows about an archive in files.
 
 use crate::archives::Archives;
-use crate::asked::Asked;
+use crate::asked::{Asked, Reply};
 use crate::files::{ArchiveFiles, Fuses};
 use crate::kept::Kept;
 use crate::steps::{steps, stop_steps};
-use crate::stops::{say_made, stop_asked_row, stop_create_row, stop_row};
+use crate::stops::{say_made, stop_create_row, stop_row};
 use crate::words::Words;
 use archive_core::Request;
 use records::RefusalKind;
@@ -62,16 +62,25 @@ fn store_over<F: ArchiveFiles>(
     archives: &mut Archives<F>,
     society: &str,
 ) -> Result<Vec<u8>, AllocError> {
-    let Some(kept) = &archives.kept else {
-        return word(alloc, "none");
-    };
+    match &archives.kept {
+        Some(kept) => over_row(alloc, &kept.images, society),
+        None => word(alloc, "none"),
+    }
+}
+
+fn over_row<F: ArchiveFiles>(
+    alloc: Global,
+    images: &F,
+    society: &str,
+) -> Result<Vec<u8>, AllocError> {
+    let (_, unchanged) = images.visit_once(alloc, Fuses::none(), Asked::Nothing)?;
+    let (made, left) = images.make(alloc, Fuses::none(), society)?;
+    let is_same = left.is_same(&unchanged);
+    drop(left);
+    drop(unchanged);
     let mut words = Words::new(alloc, "over")?;
-    let (_, unchanged) = kept
-        .images
-        .visit_once(alloc, Fuses::none(), Asked::Nothing)?;
-    let (made, left) = kept.images.make(alloc, Fuses::none(), society)?;
     say_made(alloc, made, &mut words)?;
-    words.say(same_or_differs(left.is_same(&unchanged)))?;
+    words.say(same_or_differs(is_same))?;
     words.into_row()
 }
 
@@ -142,22 +151,21 @@ fn stop<F: ArchiveFiles>(
         return refused(alloc, "", RefusalKind::BadRow);
     };
     match request_of(alloc, fields)? {
-        Ok(request) => stop_request(alloc, archives, fuses, request),
+        Ok(request) => stop_request(alloc, archives, fuses, [request]),
         Err(kind) => refused(alloc, "", kind),
     }
 }
 
+/// The request is done twice, and once more when the archive is opened again.
 fn stop_request<F: ArchiveFiles>(
     alloc: Global,
     archives: &mut Archives<F>,
     fuses: Fuses,
-    request: Request,
+    requests: [Request; 1],
 ) -> Result<Vec<u8>, AllocError> {
-    archives.note(alloc, &request)?;
-    match &archives.kept {
-        Some(kept) => stop_row(alloc, kept, &archives.decided, fuses, request),
-        None => word(alloc, "none"),
-    }
+    let twice = Asked::Perform(&requests[0], 2);
+    let again = Asked::Perform(&requests[0], 1);
+    stop_row(alloc, archives, fuses, &requests, twice, again)
 }
 
 /// Requests in one call on a copy of the archive of which a file fails. A row is one field here.
@@ -174,7 +182,7 @@ fn stop_run<F: ArchiveFiles>(
     match requests_of(alloc, rows)? {
         Ok(requests) => {
             let asked = Asked::Run(&requests);
-            stop_asked_row(alloc, archives, fuses, &requests, asked)
+            stop_row(alloc, archives, fuses, &requests, asked, asked)
         }
         Err(kind) => refused(alloc, "", kind),
     }
@@ -203,12 +211,20 @@ fn spoil<F: ArchiveFiles>(
         return word(alloc, "none");
     };
     match request_of(alloc, fields)? {
-        Ok(request) => {
-            let asked = Asked::Perform(&request, 2);
-            visit_row(alloc, "spoil", &kept.images, sql, asked)
-        }
+        Ok(request) => spoil_row(alloc, &kept.images, sql, request),
         Err(kind) => refused(alloc, "", kind),
     }
+}
+
+fn spoil_row<F: ArchiveFiles>(
+    alloc: Global,
+    images: &F,
+    sql: &str,
+    request: Request,
+) -> Result<Vec<u8>, AllocError> {
+    let row = visit_row(alloc, "spoil", images, sql, Asked::Perform(&request, 2));
+    drop(request);
+    row
 }
 
 /// What is answered where files are adopted in which statements made tables.
@@ -224,9 +240,20 @@ fn visit_row<F: ArchiveFiles>(
     asked: Asked<'_>,
 ) -> Result<Vec<u8>, AllocError> {
     let reply = images.visit_altered(alloc, sql, asked)?;
+    reply_row(alloc, first, reply)
+}
+
+/// A row of what a visit answered, behind a word.
+fn reply_row(alloc: Global, first: &str, reply: Reply) -> Result<Vec<u8>, AllocError> {
+    let words = reply_words(alloc, first, &reply);
+    drop(reply);
+    words?.into_row()
+}
+
+fn reply_words(alloc: Global, first: &str, reply: &Reply) -> Result<Words, AllocError> {
     let mut words = Words::new(alloc, first)?;
-    words.say_reply(alloc, &reply)?;
-    words.into_row()
+    words.say_reply(alloc, reply)?;
+    Ok(words)
 }
 
 /// What is answered where a file has a text so many times.
@@ -238,13 +265,17 @@ fn adopt_bytes<F: ArchiveFiles>(
     let Ok(count) = count.parse::<u32>() else {
         return refused(alloc, "", RefusalKind::BadRow);
     };
+    let images = F::of_database(alloc, repeated(alloc, text, count)?);
+    let visited = images.visit_once(alloc, Fuses::none(), Asked::Nothing);
+    drop(images);
+    let (reply, _) = visited?;
+    reply_row(alloc, "adopt", reply)
+}
+
+fn repeated(alloc: Global, text: &str, count: u32) -> Result<Vec<u8>, AllocError> {
     let mut bytes = Vec::new(alloc);
     for _ in 0..count {
         bytes.extend_from_slice(text.as_bytes())?;
     }
-    let images = F::of_database(alloc, bytes);
-    let (reply, _) = images.visit_once(alloc, Fuses::none(), Asked::Nothing)?;
-    let mut words = Words::new(alloc, "adopt")?;
-    words.say_reply(alloc, &reply)?;
-    words.into_row()
+    Ok(bytes)
 }

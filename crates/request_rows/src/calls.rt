@@ -1,7 +1,8 @@
-//! Calls of an archive over a connection that is handed back.
+//! Tasks of a session: calls of an archive over a connection that is handed back.
 
 ghost use Rattle.std.specs.Prelude.{◌≡◌, false};
 
+use crate::done::Done;
 use crate::steps::step;
 use archive_core::Request;
 use devices::Counted;
@@ -11,12 +12,48 @@ use sqlite::{Alter, Connection};
 use std::alloc::{AllocError, Global};
 use store::Archive;
 
-/// Adopts the archive of a connection and asks it.
-pub(crate) fn visit<S: Alter>(
+/// What is done in a session.
+#[derive(Clone, Copy)]
+pub(crate) enum Task<'a> {
+    Visit(Asked<'a>),
+    /// Two visits over one connection.
+    Visits(Asked<'a>, Asked<'a>),
+    /// A visit behind statements.
+    Alter(&'a str, Asked<'a>),
+    Create(&'a str),
+    Export,
+}
+
+/// Does a task.
+pub(crate) fn work<S: Alter>(
+    alloc: Global,
+    conn: Connection<S>,
+    task: Task<'_>,
+) -> (Done, Connection<S>)
+    requires { conn.in_transaction ≡ false }
+{
+    match task {
+        Task::Visit(asked) => visit_once(alloc, conn, asked),
+        Task::Visits(asked, then) => visit_again(alloc, conn, asked, then),
+        Task::Alter(sql, asked) => alter(alloc, conn, sql, asked),
+        Task::Create(society) => create(alloc, conn, society),
+        Task::Export => export(alloc, conn),
+    }
+}
+
+fn visit_once<S: Alter>(
     alloc: Global,
     conn: Connection<S>,
     asked: Asked<'_>,
-) -> (Reply, Connection<S>)
+) -> (Done, Connection<S>)
+    requires { conn.in_transaction ≡ false }
+{
+    let (reply, conn) = visit(alloc, conn, asked);
+    (Done::Visited(reply), conn)
+}
+
+/// Adopts the archive of a connection and asks it.
+fn visit<S: Alter>(alloc: Global, conn: Connection<S>, asked: Asked<'_>) -> (Reply, Connection<S>)
     requires { conn.in_transaction ≡ false }
     ensures { result.1.in_transaction ≡ false }
 {
@@ -30,17 +67,17 @@ pub(crate) fn visit<S: Alter>(
 }
 
 /// Visits the archive of a connection twice.
-pub(crate) fn visit_again<S: Alter>(
+fn visit_again<S: Alter>(
     alloc: Global,
     conn: Connection<S>,
     asked: Asked<'_>,
     then: Asked<'_>,
-) -> (Reply, Reply, Connection<S>)
+) -> (Done, Connection<S>)
     requires { conn.in_transaction ≡ false }
 {
     let (first, conn) = visit(alloc, conn, asked);
     let (second, conn) = visit(alloc, conn, then);
-    (first, second, conn)
+    (Done::VisitedTwice(first, second), conn)
 }
 
 fn visited(told: Result<Told, RefusalKind>) -> Reply {
@@ -108,42 +145,57 @@ fn walk<S: Alter>(
 ) -> Result<Vec<Outcome>, RefusalKind> {
     let mut outcomes = Vec::new(alloc);
     for name in names {
-        match *name {
-            "run" => outcomes.append(&mut run(alloc, archive, requests)?)?,
-            name => push(&mut outcomes, step(alloc, archive, name, requests))?,
-        }
+        push_step(alloc, archive, *name, requests, &mut outcomes)?;
     }
     Ok(outcomes)
 }
 
-/// Makes an archive in the store of a connection.
-pub(crate) fn create<S: Alter>(
-    conn: Connection<S>,
-    society: String,
-) -> (Result<(), RefusalKind>, Connection<S>)
+fn push_step<S: Alter>(
+    alloc: Global,
+    archive: &mut Archive<S>,
+    name: &str,
+    requests: &[Request],
+    outcomes: &mut Vec<Outcome>,
+) -> Result<(), RefusalKind> {
+    match name {
+        "run" => Ok(append(outcomes, run(alloc, archive, requests)?)?),
+        name => Ok(push(outcomes, step(alloc, archive, name, requests))?),
+    }
+}
+
+fn append(outcomes: &mut Vec<Outcome>, mut more: Vec<Outcome>) -> Result<(), AllocError> {
+    outcomes.append(&mut more)
+}
+
+/// Makes an archive in the store of a connection. 1: memory for its name was refused.
+fn create<S: Alter>(alloc: Global, conn: Connection<S>, society: &str) -> (Done, Connection<S>)
     requires { conn.in_transaction ≡ false }
-    ensures { result.1.in_transaction ≡ false }
+{
+    match String::from_str(alloc, society) {
+        Ok(society) => create_named(conn, society),
+        Err(_) => (Done::Created(Err(RefusalKind::OutOfMemory)), conn),
+    }
+}
+
+fn create_named<S: Alter>(conn: Connection<S>, society: String) -> (Done, Connection<S>)
+    requires { conn.in_transaction ≡ false }
 {
     match Archive::create(conn, society) {
-        Ok(archive) => (Ok(()), archive.into_connection()),
-        Err((kind, conn)) => (Err(kind), conn),
+        Ok(archive) => (Done::Created(Ok(())), archive.into_connection()),
+        Err((kind, conn)) => (Done::Created(Err(kind)), conn),
     }
 }
 
 /// The text of the GEDCOM file that the archive of a connection is exported as.
-pub(crate) fn export<S: Alter>(
-    alloc: Global,
-    conn: Connection<S>,
-) -> (Result<Vec<u8>, RefusalKind>, Connection<S>)
+fn export<S: Alter>(alloc: Global, conn: Connection<S>) -> (Done, Connection<S>)
     requires { conn.in_transaction ≡ false }
-    ensures { result.1.in_transaction ≡ false }
 {
     match Archive::adopt(alloc, conn) {
         Ok(mut archive) => {
             let text = exported(alloc, &mut archive);
-            (text, archive.into_connection())
+            (Done::Exported(text), archive.into_connection())
         }
-        Err((kind, conn)) => (Err(kind), conn),
+        Err((kind, conn)) => (Done::Exported(Err(kind)), conn),
     }
 }
 
@@ -168,15 +220,15 @@ fn write_named<S: Alter>(
 }
 
 /// Runs statements, and then visits the archive.
-pub(crate) fn alter<S: Alter>(
+fn alter<S: Alter>(
     alloc: Global,
     mut conn: Connection<S>,
     sql: &str,
     asked: Asked<'_>,
-) -> (Reply, Connection<S>) {
+) -> (Done, Connection<S>) {
     if conn.execute_batch(sql).is_ok() && conn.is_autocommit() {
-        visit(alloc, conn, asked)
+        visit_once(alloc, conn, asked)
     } else {
-        (Reply::Unaltered, conn)
+        (Done::Visited(Reply::Unaltered), conn)
     }
 }

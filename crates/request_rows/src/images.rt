@@ -41,12 +41,21 @@ impl Images {
     ) -> Result<Result<Opened, Images>, AllocError>
         ensures { IfOk result (λ opened. IfOk opened (λ conn. conn.in_transaction ≡ false)) }
     {
-        let log = disk(alloc, &self.log, fuses.log)?;
-        let db = disk(alloc, &self.db, fuses.db)?;
-        match Connection::open_files(alloc, Files { log, db }, small()) {
+        let files = self.disks(alloc, fuses)?;
+        match Connection::open_files(alloc, files, small()) {
             Ok(conn) => Ok(Ok(conn)),
             Err((_, left)) => Ok(Err(left_of(alloc, left.into_files(), fuses)?)),
         }
+    }
+
+    /// Copies of the files.
+    fn disks(&self, alloc: Global, fuses: Fuses) -> Result<Files<Fuse<Memory>>, AllocError>
+        ensures log { IfOk result (λ files. IsTrue (memory_is_usable (inner_of files.log)) × IsFresh files.log) }
+        ensures db { IfOk result (λ files. IsTrue (memory_is_usable (inner_of files.db)) × IsFresh files.db) }
+    {
+        let log = disk(alloc, &self.log, fuses.log)?;
+        let db = disk(alloc, &self.db, fuses.db)?;
+        Ok(Files { log, db })
     }
 }
 
@@ -71,6 +80,10 @@ fn left_of(
         files.log.crash();
         files.db.crash();
     }
+    images_of(alloc, &files)
+}
+
+fn images_of(alloc: Global, files: &Files<Fuse<Memory>>) -> Result<Images, AllocError> {
     Ok(Images {
         log: copied(alloc, files.log.inner().bytes())?,
         db: copied(alloc, files.db.inner().bytes())?,

@@ -3,6 +3,7 @@
 #![tactic(auto)]
 
 mod calls;
+mod done;
 mod images;
 mod sessions;
 mod steps;

@@ -1,10 +1,29 @@
 //! Sessions over the files of an archive: opened, used and closed.
 
-use crate::calls::{alter, create, export, visit, visit_again};
+use crate::calls::{Task, work};
+use crate::done::Done;
 use crate::images::{Images, close};
 use records::RefusalKind;
 use request_answers::{ArchiveFiles, Asked, Fuses, Reply, Visits};
 use std::alloc::{AllocError, Global};
+
+impl Images {
+    /// Does a task over copies of the files, and answers what these have after it. Here alone a task meets real files.
+    fn session(
+        &self,
+        alloc: Global,
+        fuses: Fuses,
+        task: Task<'_>,
+    ) -> Result<(Done, Images), AllocError> {
+        match self.open(alloc, fuses)? {
+            Ok(conn) => {
+                let (done, conn) = work(alloc, conn, task);
+                Ok((done, close(alloc, conn, fuses)?))
+            }
+            Err(left) => Ok((Done::Unopened, left)),
+        }
+    }
+}
 
 impl ArchiveFiles for Images {
     fn empty(alloc: Global) -> Images {
@@ -25,13 +44,8 @@ impl ArchiveFiles for Images {
         fuses: Fuses,
         asked: Asked<'_>,
     ) -> Result<(Reply, Images), AllocError> {
-        match self.open(alloc, fuses)? {
-            Ok(conn) => {
-                let (reply, conn) = visit(alloc, conn, asked);
-                Ok((reply, close(alloc, conn, fuses)?))
-            }
-            Err(left) => Ok((Reply::Unopened, left)),
-        }
+        let (done, left) = self.session(alloc, fuses, Task::Visit(asked))?;
+        Ok((done.into_reply(), left))
     }
 
     fn visit_twice(
@@ -41,22 +55,13 @@ impl ArchiveFiles for Images {
         asked: Asked<'_>,
         then: Asked<'_>,
     ) -> Result<Visits<Images>, AllocError> {
-        match self.open(alloc, fuses)? {
-            Ok(conn) => {
-                let (first, second, conn) = visit_again(alloc, conn, asked, then);
-                let left = close(alloc, conn, fuses)?;
-                Ok(Visits {
-                    first,
-                    second,
-                    left,
-                })
-            }
-            Err(left) => Ok(Visits {
-                first: Reply::Unopened,
-                second: Reply::Unopened,
-                left,
-            }),
-        }
+        let (done, left) = self.session(alloc, fuses, Task::Visits(asked, then))?;
+        let (first, second) = done.into_replies();
+        Ok(Visits {
+            first,
+            second,
+            left,
+        })
     }
 
     fn visit_altered(
@@ -65,14 +70,8 @@ impl ArchiveFiles for Images {
         sql: &str,
         asked: Asked<'_>,
     ) -> Result<Reply, AllocError> {
-        match self.open(alloc, Fuses::none())? {
-            Ok(conn) => {
-                let (reply, conn) = alter(alloc, conn, sql, asked);
-                close(alloc, conn, Fuses::none())?;
-                Ok(reply)
-            }
-            Err(_) => Ok(Reply::Unopened),
-        }
+        let (done, _) = self.session(alloc, Fuses::none(), Task::Alter(sql, asked))?;
+        Ok(done.into_reply())
     }
 
     fn make(
@@ -81,24 +80,12 @@ impl ArchiveFiles for Images {
         fuses: Fuses,
         society: &str,
     ) -> Result<(Option<Result<(), RefusalKind>>, Images), AllocError> {
-        let society = String::from_str(alloc, society)?;
-        match self.open(alloc, fuses)? {
-            Ok(conn) => {
-                let (made, conn) = create(conn, society);
-                Ok((Some(made), close(alloc, conn, fuses)?))
-            }
-            Err(left) => Ok((None, left)),
-        }
+        let (done, left) = self.session(alloc, fuses, Task::Create(society))?;
+        Ok((done.into_made(), left))
     }
 
     fn export_once(&self, alloc: Global) -> Result<Result<Vec<u8>, RefusalKind>, AllocError> {
-        match self.open(alloc, Fuses::none())? {
-            Ok(conn) => {
-                let (text, conn) = export(alloc, conn);
-                close(alloc, conn, Fuses::none())?;
-                Ok(text)
-            }
-            Err(_) => Ok(Err(RefusalKind::Storage)),
-        }
+        let (done, _) = self.session(alloc, Fuses::none(), Task::Export)?;
+        Ok(done.into_text())
     }
 }
