@@ -340,7 +340,8 @@ def numbers_far_apart(tools):
         expect(at.export(), written((HEADER + records + TRAILER).encode()))
         expect(run(tools.parish, ("audit", at.file), b""), written(b"sound: 2 records\n"))
         for words in (("export", at.file, "--public"), ("sheet", at.file, "person", "4294967293")):
-            demand(run(tools.parish, words, b"").status == 0, f"{words[2:]} was refused")
+            got = run(tools.parish, (*words, "--today", "2026-01-01"), b"")
+            demand(got.status == 0 and got.out, f"{words[2:]}: {got}")
 
 
 def no_archive(tools):
