@@ -1,6 +1,6 @@
 """Whether a package has just what this release has: the same files, and so the executable that the gate made.
 
-A package is read by Python's tarfile, and not unpacked. What it has to have is made anew, so a manifest that fits its
+A package is read by Python's tarfile, not unpacked. What it has to contain is made again, so a manifest that fits its
 files is not enough: it has to be the manifest of this release.
 """
 
@@ -54,7 +54,7 @@ def file_at(files, end):
 
 
 def other_executable(files, wanted):
-    """What is to be said first: whose executable it is, by the manifest and by its bytes."""
+    """What has to be said first: whose executable it is, by the manifest and by its bytes."""
     ours, theirs = (EXECUTABLE.findall(file_at(it, MANIFEST)) for it in (wanted, files))
     if ours != theirs:
         yield "its manifest names another executable than the gate made"

@@ -19,29 +19,29 @@ DOCUMENTS = "share/doc/parish"
 MANIFEST = f"{DOCUMENTS}/MANIFEST"
 MAINTAINER = "Jorwethan maintainers <maintainers@users.noreply.jorwethan.example>"
 
-# What somebody reads who uses the program; the others are for who changes it, and are in the source.
+# What users of the program read; the other documents are for those who change it, and are in the source.
 FOR_USERS = (
     "README.md", "CHANGELOG.md", "docs/BENCH.md", "docs/FORMATS.md", "docs/KEEPING.md", "docs/LIVING.md",
     "docs/PROVED.md", "docs/READING-ROOM.md", "docs/REFUSALS.md", "docs/SHEETS.md", "docs/VERSIONS.md", "docs/WALK.md",
 )
 
 LIBRARIES = """\
-parish is built over libraries of the Rattle kit. Those named below are ports of other people's work, or hold tables of
-theirs; each text of a licence stands below the names of the libraries that it is of.
+parish is built on libraries of the Rattle kit. Those named below are ports of other people's work, or contain tables of
+theirs; the text of each licence follows the names of the libraries that have it.
 """
 
 
 @dataclass(frozen=True)
 class Release:
-    """What a package is made of, once everything that it asks for is there."""
+    """What a package is made of, when everything that it needs is there."""
 
     root: str
     version: str
     kit: str
     note: str
-    """What ./test left when the gate had passed."""
+    """What ./test left after the gate passed."""
     seconds: int
-    """The time of the commit, which all files get."""
+    """The time of the commit, given to all files."""
     kit_folder: str
     uses: tuple[str, ...]
     """The libraries of the kit that the crates name."""

@@ -1,7 +1,7 @@
 """The two packages, made by tar, gzip and dpkg-deb.
 
-Of the same release the same bytes are made: each file and folder has the time of the commit, its mode by what it is,
-and root as its owner, and names are sorted.
+The same release makes the same bytes: each file and folder has the time of the commit, a mode by its kind, and root as
+its owner, and names are sorted.
 """
 
 from __future__ import annotations
@@ -52,7 +52,7 @@ def settle(folder, seconds):
 
 
 def tarball(release, room):
-    """Makes the tarball in a folder, and hands back its path."""
+    """Makes the tarball in a folder, and returns its path."""
     path = os.path.join(room, tarball_name(release))
     top = os.path.basename(path).removesuffix(".tar.gz")
     put(for_tarball(release), os.path.join(room, top))
@@ -98,7 +98,7 @@ def control(release, files, needs):
 
 
 def debian_files(release, room):
-    """All that the Debian package has: its files, and what tells dpkg of them."""
+    """Everything in the Debian package: its files, and what dpkg needs to know about them."""
     files = {f"usr/{name}": data for name, data in for_debian(release).items()}
     sums = "".join(f"{hashlib.md5(files[name]).hexdigest()}  {name}\n" for name in sorted(files))
     told = {"DEBIAN/control": control(release, files, depends(release, room)), "DEBIAN/md5sums": sums.encode()}
@@ -106,7 +106,7 @@ def debian_files(release, room):
 
 
 def deb(release, room):
-    """Makes the Debian package in a folder, and hands back its path."""
+    """Makes the Debian package in a folder, and returns its path."""
     path, tree = os.path.join(room, deb_name(release)), os.path.join(room, "tree")
     put(debian_files(release, os.path.join(room, "needs")), tree)
     settle(tree, release.seconds)

@@ -7,7 +7,7 @@ import subprocess
 
 
 class Missing(Exception):
-    """Something that a release asks for is not there; the text says what."""
+    """Something that a release needs is missing; the text says what."""
 
 
 def bytes_of(path):
@@ -16,7 +16,7 @@ def bytes_of(path):
 
 
 def called(words, **how):
-    """Runs a command that has to end with 0, and hands back what it printed."""
+    """Runs a command that has to end with 0, and returns what it printed."""
     how = {"stdin": subprocess.DEVNULL, **how} if "input" not in how else how
     try:
         ran = subprocess.run(words, capture_output=True, check=False, **how)
