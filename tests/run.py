@@ -30,6 +30,7 @@ import documents  # noqa: E402
 import earlier  # noqa: E402
 import exchanges  # noqa: E402
 import exports  # noqa: E402
+import faults  # noqa: E402
 import files  # noqa: E402
 import imports  # noqa: E402
 import layout  # noqa: E402
@@ -74,6 +75,7 @@ PARTS = (
     merges,
     exports,
     exchanges,
+    faults,
     memory,
     properties,
     queries,

@@ -91,6 +91,7 @@ fit_of : (a : Asked) (found : Option (Text × List Row))
     → is_fit found ≡ true
 fit_of asked.Norm found e has some = fit_by asked.Norm found (codes "norm") e has (λ rows words. refl)
 fit_of asked.Check found e has some = fit_by asked.Check found (codes "check") e has (λ rows words. refl)
+fit_of asked.CheckAll found e has some = fit_by asked.CheckAll found (codes "check") e has (λ rows words. refl)
 fit_of (asked.Convert from) found e has some =
     fit_by (asked.Convert from) found (codes "convert") e has (λ rows words. meant_there set_named _ from words)
 fit_of (asked.Init file society) found e has some =

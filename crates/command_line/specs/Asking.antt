@@ -52,6 +52,7 @@ use Rattle.command_line.specs.declared.tasks.Asked.TheVariants.{
   Apply,
   Audit,
   Check,
+  CheckAll,
   Convert,
   Days,
   Entries as EntriesAsked,
@@ -80,6 +81,7 @@ command_named words = option_map (λ found. found.0) (subcommand_of program word
 abbrev pub name_of : Asked → Option Text
 name_of Norm = Some (codes "norm")
 name_of Check = Some (codes "check")
+name_of CheckAll = Some (codes "check")
 name_of (Convert from) = Some (codes "convert")
 name_of (Init file society) = Some (codes "init")
 name_of (Apply file) = Some (codes "apply")
@@ -138,6 +140,10 @@ is_public found = is_given found (codes "public")
 abbrev pub is_told : Option (Text × List Row) → Bool
 is_told found = is_given found (codes "progress")
 
+-- `--all` is given
+abbrev pub is_all : Option (Text × List Row) → Bool
+is_all found = is_given found (codes "all")
+
 -- an option is given a word of which this is the meaning; or it is not given, and this is none
 abbrev pub IsMeant : {A : Type 0} → (Text → Option A) → Option Text → Option A → Type 0
 IsMeant meaning word value = option_map meaning word ≡ option_map Some value
@@ -152,6 +158,8 @@ kind_in found = kind_named (word_in found (codes "KIND"))
 
 -- what is asked for has the words that the command is given
 abbrev pub HasWords : Option (Text × List Row) → Asked → Type 0
+HasWords found Check = is_all found ≡ false
+HasWords found CheckAll = is_all found ≡ true
 HasWords found (Convert from) = IsMeant set_named (given_in found (codes "from")) from
 HasWords found (Init file society) = (file.now ≡ word_in found (codes "FILE"))
     × (society.now ≡ word_in found (codes "society"))

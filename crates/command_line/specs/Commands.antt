@@ -116,6 +116,10 @@ to_rule = needed_rule (codes "to")
 abbrev pub words_rule : Rule
 words_rule = flag_rule (codes "words")
 
+-- `--all`
+abbrev pub all_rule : Rule
+all_rule = flag_rule (codes "all")
+
 -- `--from SET`, any word here
 abbrev pub set_rule : Rule
 set_rule = option_rule (codes "from")
@@ -147,7 +151,7 @@ abbrev pub norm_shape : Shape
 norm_shape = new_shape (codes "norm")
 
 abbrev pub check_shape : Shape
-check_shape = new_shape (codes "check")
+check_shape = record (new_shape (codes "check")) { rules = all_rule ∷ [] }
 
 abbrev pub convert_shape : Shape
 convert_shape = record (new_shape (codes "convert")) { rules = set_rule ∷ [] }

@@ -176,6 +176,14 @@ pub(crate) const SET: Word = Word {
     numbers: None,
 };
 
+pub(crate) const ALL: Word = Word {
+    id: "all",
+    help: "Print each faulty line, up to 1000 of them",
+    form: Form::Flag,
+    needed: false,
+    numbers: None,
+};
+
 /// Whether it is a kind of records is judged where it is read.
 pub(crate) const RECORD_KIND: Word = Word {
     id: "KIND",

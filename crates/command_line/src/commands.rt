@@ -7,7 +7,7 @@ ghost use Rattle.command_line.specs.Commands.{bare, program};
 ghost use Rattle.command_line.specs.Described.{rule_described, shape_described};
 
 use crate::arguments::{
-    AFTER, COUNT, FILE, FIRST_DAY, GENERATIONS, LAST_DAY, LIMIT, MAYBE_SOURCE, MAYBE_TODAY,
+    AFTER, ALL, COUNT, FILE, FIRST_DAY, GENERATIONS, LAST_DAY, LIMIT, MAYBE_SOURCE, MAYBE_TODAY,
     OPTION_KIND, PORT, PROGRESS, PUBLIC, RECORD, RECORD_KIND, RECORDS, SEARCH, SET, SHEET_KIND,
     SOCIETY, SOURCE, TODAY, TOKEN, WORDS, Word, arg_of,
 };
@@ -70,7 +70,7 @@ const CHECK: CommandRow = CommandRow {
     name: "check",
     about: CHECK_ABOUT,
     example: CHECK_EXAMPLE,
-    words: &[],
+    words: &[ALL],
 };
 
 const CONVERT: CommandRow = CommandRow {

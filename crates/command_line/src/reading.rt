@@ -1,6 +1,20 @@
 //! What a command line asks for.
 
-ghost use Rattle.std.specs.Prelude.{◌≡◌, ◌⊎◌, Err, IfOk, IfSome, IsSome, None, OnOk, Some, map, string_bytes, true};
+ghost use Rattle.std.specs.Prelude.{
+  ◌≡◌,
+  ◌⊎◌,
+  Err,
+  IfOk,
+  IfSome,
+  IsSome,
+  None,
+  OnOk,
+  Some,
+  codes,
+  map,
+  string_bytes,
+  true,
+};
 ghost use Rattle.clap.specs.Words.{found_of, kind_of, rows_of, subcommand_name_of, subcommand_rows_of};
 ghost use Rattle.command_line.specs.Asking.{
   AsksForHelp,
@@ -67,7 +81,7 @@ fn command_named<'a>(
 {
     match name {
         "norm" => Ok(Asked::Norm),
-        "check" => Ok(Asked::Check),
+        "check" => Ok(check_asked(given)),
         "convert" => convert_asked(alloc, given),
         "init" => Ok(Asked::Init {
             file: word_of(given, "FILE"),
@@ -97,6 +111,18 @@ fn command_named<'a>(
         "find" => find_asked(alloc, given),
         "show" => show_asked(alloc, given),
         _ => no_such_command(alloc),
+    }
+}
+
+/// `check`: the records counted, or with `--all` all that is at fault.
+fn check_asked<'a>(given: &ArgMatches<'a>) -> Asked<'a>
+    ensures asked { name_of result ≡ Some (codes "check") }
+    ensures words { HasWords (Some (codes "check", rows_of (found_of given.now))) result }
+{
+    if is_yes(word_of(given, "all")) {
+        Asked::CheckAll
+    } else {
+        Asked::Check
     }
 }
 

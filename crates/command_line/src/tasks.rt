@@ -10,6 +10,8 @@ pub enum Asked<'a> {
     Norm,
     /// `check`: the number of records of standard input's forest, on standard output.
     Check,
+    /// `check --all`: the same; where the forest has faults, the faulty lines on standard output.
+    CheckAll,
     /// `convert`: the GEDCOM file of standard input in UTF-8, on standard output. It is in the character set of
     /// `--from`, where one is given.
     Convert {

@@ -16,8 +16,13 @@ pub(crate) const CHECK_EXAMPLE: &str = "\
 It prints `ok: <n> records` once the whole input has been read without a fault.
 The header and the trailer are no records.
 
-Example:
-  parish check < family.ged";
+With --all a file with faults is read on to its end: for each faulty line its
+first fault is printed, `line <n>: <no.> <Name>: <line>`, up to 1000 of them, then
+`and <n> more`. Standard error has the first, as without --all.
+
+Examples:
+  parish check < family.ged
+  parish check --all < family.ged > faults.txt";
 
 pub(crate) const CONVERT_ABOUT: &str = "Write the GEDCOM file of standard input in UTF-8";
 

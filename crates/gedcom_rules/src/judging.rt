@@ -51,7 +51,7 @@ use std::alloc::Global;
 pub const MAX_LINE: usize = 65_536;
 
 /// The same refusal in the table of files.
-fn of_line(kind: LineKind) -> TreeKind
+pub fn of_line(kind: LineKind) -> TreeKind
     ensures { result ≡ kind_of_line kind }
 {
     match kind {
@@ -79,8 +79,8 @@ fn is_continued(above: Option<Standing>) -> bool
     }
 }
 
-/// The first rule that the line breaks, behind the lines so far.
-fn first_broken(seen: &Seen, line: &LineRef<'_>) -> Option<TreeKind>
+/// The first rule that the line breaks, behind the lines so far. Nothing is added to them.
+pub fn first_broken(seen: &Seen, line: &LineRef<'_>) -> Option<TreeKind>
     ensures { result ≡ broken_first (progress seen.now) (parts line.now) }
 {
     let above = seen.parent(line.level);

@@ -20,5 +20,5 @@ mod standing;
 pub use cutting::cut;
 pub use deciding::{MAX_FILE, judge_end, judge_open, too_long};
 pub use fault::{TreeFault, TreeKind};
-pub use judging::{MAX_LINE, judge_piece};
+pub use judging::{MAX_LINE, first_broken, judge_piece, of_line};
 pub use seen::{Seen, is_continuation, is_trailer};

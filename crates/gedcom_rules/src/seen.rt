@@ -13,6 +13,7 @@ ghost use Rattle.gedcom_rules.specs.Rules.{
   may_go_on as goes_on,
 };
 ghost use Rattle.gedcom_rules.specs.Judging.{after as after_line, above_after, continue_at, start as no_lines};
+ghost use Rattle.gedcom_rules.specs.Depth.{depth as depth_of};
 ghost use Rattle.gedcom_rules.specs.Views.{progress, standing_view, standings, IsStacked};
 
 use crate::standing::{Role, Standing, added_len};
@@ -163,6 +164,26 @@ impl Seen {
             Some(name) => self.names.contains(name),
             None => false,
         }
+    }
+
+    /// How many lines stand open: one of each level down to that of the last one.
+    pub fn depth(&self) -> usize
+        requires { IsStacked self.now }
+        ensures { result ≡ depth_of (progress self.now) }
+    {
+        self.stack.len()
+    }
+
+    /// Adds a line behind these, whichever rules it breaks: the callers that read on behind a faulty line decide what
+    /// it counts as.
+    pub fn count_line(&mut self, alloc: Global, line: &LineRef<'_>) -> Result<(), AllocError>
+        requires count { (progress self.old).count + 1 < 2 ^ 32 }
+        requires stacked { IsStacked self.old }
+        requires level { line.now.level ≤ depth_of (progress self.old) }
+        ensures value { OnOk result (progress self.new ≡ after_line (progress self.old) (parts line.now)) }
+        ensures stacked { OnOk result (IsStacked self.new) }
+    {
+        self.add(alloc, line)
     }
 
     /// Adds a line behind these.
