@@ -27,12 +27,12 @@ FACT = re.compile(r"^\s*ghost \w+: ")
 TABLE = re.compile(r"^ *\|")
 LONGER = {
     "crates/archive_core/src/applying.rt": LEMMAS,
-    "crates/archive_looks/src/names.rt": LEMMAS,
-    "crates/archive_looks/src/places.rt": LEMMAS,
-    "crates/export_index/src/names.rt": LEMMAS,
+    "crates/command_checks/src/names.rt": LEMMAS,
+    "crates/command_checks/src/places.rt": LEMMAS,
+    "crates/gedcom_export/src/names.rt": LEMMAS,
     "crates/gedcom_date/src/texts.rt": FACT,
-    "crates/place_paths/src/normal.rt": LEMMAS,
-    "crates/place_paths/src/paths.rt": LEMMAS,
+    "crates/command_checks/src/normal.rt": LEMMAS,
+    "crates/command_checks/src/paths.rt": LEMMAS,
     "crates/store_tables/proofs/LaterTexts.antt": STATEMENT,
     "crates/store_tables/proofs/Texts.antt": STATEMENT,
     "crates/store_tables/src/creating.rt": STATEMENT,

@@ -1,4 +1,4 @@
-"""The words of a search, written beside their definition (crates/search_keys/specs) in Python's own tables.
+"""The words of a search, written beside their definition (crates/searching/specs) in Python's own tables.
 
     python3 tests/searches/keys.py [ROWS] [SEED]
 

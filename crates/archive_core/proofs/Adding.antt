@@ -3,7 +3,7 @@ use Rattle.std.specs.Prelude.{Option}
 use Rattle.archive_state.specs.Changes.{Changes}
 use Rattle.archive_state.specs.Content.{Content}
 use Rattle.archive_state.specs.declared.changes.Kept.{Kept}
-use Rattle.import_steps.specs.Imports.{OnlyAdds}
+use Rattle.imports.specs.Imports.{OnlyAdds}
 
 pub kept_adds : (c : Content) (changes : Changes) (kept : Option Kept) → OnlyAdds c changes
     → OnlyAdds c (record changes { kept = kept })

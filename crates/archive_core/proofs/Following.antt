@@ -4,12 +4,12 @@ use Rattle.std.specs.Prelude.{Option, None, Ok, Err}
 use Rattle.archive_state.specs.Content.{Content}
 use Rattle.commands.specs.declared.command.Command.{Command}
 use Rattle.commands.specs.declared.command.Command.TheVariants as command
-use Rattle.archive_merge.specs.Steps.{RowStep}
+use Rattle.merging.specs.Steps.{RowStep}
 use Rattle.archive_steps.specs.Steps.{row_step}
 use Rattle.archive_steps.specs.Words.{IsUtf8Row}
 use Rattle.archive_steps.proofs.Following.{Follows, row_follows}
 use Rattle.entry_batches.proofs.Commands.{batch_follows}
-use Rattle.import_steps.proofs.Commands.{import_follows}
+use Rattle.imports.proofs.Commands.{import_follows}
 use Rattle.archive_core.specs.Steps.{placed, step}
 use Rattle.archive_core.specs.Words.{HasUtf8Words}
 

@@ -33,7 +33,7 @@ use Rattle.receipts.specs.declared.answer.Receipt.{Receipt}
 use Rattle.commands.specs.Bytes.{digest_of}
 use Rattle.commands.specs.declared.command.Command.{Command}
 use Rattle.archive_core.specs.Steps.{Step, refused_at, step}
-use Rattle.archive_looks.specs.Numbers.{Draws, UsesNoneAgain}
+use Rattle.command_checks.specs.Numbers.{Draws, UsesNoneAgain}
 use Rattle.archive_core.specs.Machine.{Does, Runs, Done, served, kept_under, answered_again}
 use Rattle.archive_core.specs.Words.{HasUtf8Words}
 use Rattle.archive_core.specs.declared.request.Request.{Request}

@@ -4,7 +4,7 @@ use Rattle.std.specs.FinMap.{get}
 use Rattle.archive_state.specs.Changes.{Changes}
 use Rattle.archive_state.specs.Content.{Content}
 use Rattle.commands.specs.Bytes.{digest_of}
-use Rattle.archive_looks.specs.Exact.{IsExact, ChangesNothing}
+use Rattle.command_checks.specs.Exact.{IsExact, ChangesNothing}
 use Rattle.archive_core.specs.declared.request.Request.{Request}
 
 -- where an answer is kept under the token nothing changes; else the answer is kept under it, with the digest of the

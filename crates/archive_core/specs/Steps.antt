@@ -5,7 +5,7 @@ use Rattle.commands.specs.declared.command.Command.{Command}
 use Rattle.commands.specs.declared.command.Command.TheVariants as command
 use Rattle.archive_steps.specs.Steps.{row_step}
 use Rattle.entry_batches.specs.Batches.{batch_step}
-use Rattle.import_steps.specs.Imports.{import_step}
+use Rattle.imports.specs.Imports.{import_step}
 pub use Rattle.entry_batches.specs.Placed.{Step, refused_at, placed}
 
 -- a command of one row is refused at no place; a batch of register entries at that of a row, an import at that of a

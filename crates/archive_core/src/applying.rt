@@ -9,8 +9,9 @@ ghost use Rattle.archive_state.specs.declared.changes.Numbered.{Numbered};
 ghost use Rattle.archive_state.specs.Applied as specs;
 ghost use Rattle.archive_core.specs.Room as room;
 
-use archive_state::{Answer, Changes, Kept, Numbered, Slip, SlipChange, State};
-use records::{Person, Record};
+use archive_state::{Changes, Kept, Numbered, Slip, SlipChange, State};
+use receipts::Answer;
+use record_kinds::{Person, Record};
 use std::alloc::{AllocError, Global};
 use std::collections::VecDeque;
 

@@ -1,22 +1,22 @@
 //! The import of a forest that need not be part of a request.
 
 ghost use Rattle.std.specs.Prelude.{◌≡◌, Some, IfOk};
-ghost use Rattle.archive_view.specs.Looks.{CountsStops};
-ghost use Rattle.archive_view.specs.Views.{On};
+ghost use Rattle.archive_state.specs.Looks.{CountsStops};
+ghost use Rattle.archive_state.specs.Views.{On};
 ghost use Rattle.gedcom_tree.specs.Text.{IsForest};
-ghost use Rattle.import_steps.specs.Imports.{OnlyAdds, import_step};
+ghost use Rattle.imports.specs.Imports.{OnlyAdds, import_step};
 ghost use Rattle.archive_core.specs.Applied.{Decides};
 ghost use Rattle.archive_core.specs.Exact.{IsExactFor};
 ghost use Rattle.archive_core.specs.Machine.{import_of, kept_under, outcome};
-ghost use Rattle.archive_looks.specs.Exact.{IsExact};
+ghost use Rattle.command_checks.specs.Exact.{IsExact};
 
 use crate::machine::{answer_again, with_receipt};
-use archive_state::{Changes, Token};
-use archive_view::View;
+use archive_state::{Changes, View};
 use commands::forest_digest;
 use gedcom_tree::Forest;
-use import_steps::tell_forest;
-use records::Refusal;
+use imports::tell_forest;
+use receipts::Token;
+use record_text::Refusal;
 use std::alloc::Global;
 
 /// What the request that imports a forest changes, and its answer: as `decide` answers of a request that has the
@@ -62,6 +62,6 @@ fn import_anew<V: View>(
     ensures counts { CountsStops (V.failed view.old) (V.failed view.new) result }
 {
     let token = token.copy(alloc)?;
-    let changes = import_steps::decide_import(alloc, view, forest)?;
+    let changes = imports::decide_import(alloc, view, forest)?;
     Ok(with_receipt(changes, token, digest))
 }

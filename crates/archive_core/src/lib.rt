@@ -2,7 +2,7 @@
 //! kept under the request's token for good.
 //!
 //! It uses `archive_steps` for what each command of one row makes, `entry_batches` for what a batch of register entries
-//! does and `import_steps` for an import, `archive_view` and `archive_state` for the view of an archive and for what
+//! does and `imports` for an import, `archive_state` and `archive_state` for the view of an archive and for what
 //! changes, `records` for what is in it, and `commands` for the commands and their digests.
 //!
 //! Callers may rely on: `decide` over any view answers the changes that, made, are the step of the definitions, or
@@ -17,8 +17,6 @@ mod machine;
 mod request;
 
 pub use applying::apply;
-pub use commands::{Command, Field, GivenDate, RowCommand};
-pub use gedcom_tree::Forest;
 pub use importing::decide_import;
 pub use machine::{decide, step};
 pub use request::Request;

@@ -2,26 +2,26 @@
 
 ghost use Rattle.std.specs.Prelude.{◌≡◌, Some, IfOk, IfErr, None, false};
 ghost use Rattle.std.specs.FinMap as map;
-ghost use Rattle.archive_view.specs.Looks.{CountsFailures, CountsStops, is_failure};
-ghost use Rattle.archive_view.specs.Views.{On};
+ghost use Rattle.archive_state.specs.Looks.{CountsFailures, CountsStops, is_failure};
+ghost use Rattle.archive_state.specs.Views.{On};
 ghost use Rattle.archive_core.specs.Applied.{Decides};
 ghost use Rattle.archive_core.specs.Exact.{IsExactFor};
 ghost use Rattle.archive_core.specs.Machine.{Does, answered_again, kept_under, outcome, served};
 ghost use Rattle.archive_core.specs.Steps.{step};
 ghost use Rattle.archive_core.specs.Words.{HasUtf8Words};
-ghost use Rattle.archive_looks.specs.Exact.{ChangesNothing, IsExact};
+ghost use Rattle.command_checks.specs.Exact.{ChangesNothing, IsExact};
 ghost use Rattle.entry_batches.specs.Applied.{PlansAt};
-ghost use Rattle.import_steps.specs.Imports.{OnlyAdds};
+ghost use Rattle.imports.specs.Imports.{OnlyAdds};
 
 use crate::applying::apply;
 use crate::request::{Request, tell_words};
-use archive_state::{Answer, Changes, Kept, Receipt, State, Token};
+use archive_state::{Changes, Kept, State, View};
 use archive_steps::decide_row;
-use archive_view::View;
 use commands::{Command, command_digest};
 use entry_batches::decide_entries;
-use import_steps::decide_import;
-use records::{Refusal, RefusalKind};
+use imports::decide_import;
+use receipts::{Answer, Receipt, Token};
+use record_text::{Refusal, RefusalKind};
 use std::alloc::Global;
 
 /// Makes what a request changes in a state, and answers it. It is refused as by `decide`, of the stops only with
@@ -47,7 +47,7 @@ fn decide_over(alloc: Global, state: &State, request: &Request) -> Result<Change
 /// (`BadText`), then each number in the order of its field (`NoSuch`, `WrongKind`, and `BadText` for a place whose path
 /// has empty parts alone), then what is the command's own (`SamePerson`, `AlreadyInFamily`, `NotOfKind`), and last
 /// whether a number is left (`Full`). Of a batch of register entries the source is looked at first, and then each row
-/// so, behind the rows before it: the first refusal is the batch's, with the place of its row, and the source's has
+/// so, after the rows before it: the first refusal is the batch's, with the place of its row, and the source's has
 /// none. Of an import it is first whether two entries of the file have one key (`DuplicateEntry`, at the line of the
 /// second), and then whether there are numbers for all that it makes, and a next one (`Full`). The stops may come in
 /// place of any answer: `OutOfMemory`, and where a look of the view fails `BadStored` and `Storage`. Whatever it

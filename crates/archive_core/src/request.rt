@@ -2,11 +2,11 @@
 
 ghost use Rattle.archive_core.specs.Words.{HasUtf8Words};
 
-use archive_state::Token;
 use archive_steps::tell_row;
 use commands::Command;
 use entry_batches::tell_entries;
-use import_steps::tell_forest;
+use imports::tell_forest;
+use receipts::Token;
 
 /// A command, with the token under which its answer is kept.
 #[derive(Drop)]

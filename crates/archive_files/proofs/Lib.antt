@@ -1,2 +1,6 @@
+mod Failed
+mod Found
+mod Fresh
+pub mod Leaving
 pub mod Opened
 mod Refusing

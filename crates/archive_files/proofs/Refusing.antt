@@ -9,9 +9,9 @@ use Rattle.sqlite_store.specs.declared.store.FileStore.{FileStore}
 use Rattle.sqlite_wal.specs.Recovery.{Image}
 use Rattle.record_text.specs.declared.refusal.RefusalKind.{RefusalKind}
 use Rattle.record_text.specs.declared.refusal.RefusalKind.TheVariants.{BadText, OutOfMemory, Storage}
-use Rattle.database_files.specs.Opening.{IsNotOpenOver}
-use Rattle.database_files.specs.declared.left.Left.{Left}
-use Rattle.database_files.specs.declared.left.Left.TheVariants as left
+use Rattle.archive_files.specs.DatabaseOpening.{IsNotOpenOver}
+use Rattle.archive_files.specs.declared.left.Left.{Left}
+use Rattle.archive_files.specs.declared.left.Left.TheVariants as left
 use Rattle.store.specs.Creating.{IsSociety, RefusesToCreate}
 use Rattle.store.specs.Histories.{is_storage}
 use Rattle.store.specs.Lives.{IsOpenedOver}

@@ -6,9 +6,9 @@ use Rattle.sqlite.specs.Tree.{Trees}
 use Rattle.sqlite_disk.specs.declared.Disk as disk
 use Rattle.sqlite_wal.specs.Recovery.{Image}
 use Rattle.archive_state.specs.Content.{nothing}
-use Rattle.database_files.specs.Opening.{IsUnopenedOver}
-use Rattle.database_files.specs.declared.left.Left.{Left}
-use Rattle.database_files.specs.declared.left.Left.TheVariants as left
+use Rattle.archive_files.specs.DatabaseOpening.{IsUnopenedOver}
+use Rattle.archive_files.specs.declared.left.Left.{Left}
+use Rattle.archive_files.specs.declared.left.Left.TheVariants as left
 use Rattle.record_text.specs.declared.refusal.RefusalKind.{RefusalKind}
 use Rattle.record_text.specs.declared.refusal.RefusalKind.TheVariants.{BadText, NotAnArchive, OutOfMemory, Storage}
 use Rattle.store_tables.specs.Calls.{IsBlank}

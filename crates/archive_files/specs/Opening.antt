@@ -8,10 +8,10 @@ use Rattle.sqlite_disk.specs.declared.Disk as disk
 use Rattle.sqlite_store.specs.declared.store.FileStore.{FileStore}
 use Rattle.sqlite_wal.specs.Recovery.{Image}
 use Rattle.archive_state.specs.Content.{Content}
-use Rattle.archive_view.specs.Looks.{is_stop}
-use Rattle.database_files.specs.Opening.{IsUnopenedOver}
-use Rattle.database_files.specs.declared.left.Left.{Left}
-use Rattle.database_files.specs.declared.left.Left.TheVariants as left
+use Rattle.archive_state.specs.Looks.{is_stop}
+use Rattle.archive_files.specs.DatabaseOpening.{IsUnopenedOver}
+use Rattle.archive_files.specs.declared.left.Left.{Left}
+use Rattle.archive_files.specs.declared.left.Left.TheVariants as left
 use Rattle.record_text.specs.declared.refusal.RefusalKind.{RefusalKind}
 use Rattle.record_text.specs.declared.refusal.RefusalKind.TheVariants.{NotAnArchive, Storage}
 use Rattle.store_tables.specs.Looking.{IsFailure}

@@ -1,15 +1,25 @@
-//! An archive in a file and the log beside it: made, or opened.
+//! The two files of an archive, made or opened, and closed.
 //!
-//! It uses `store`, whose archive is made and taken up here, and `database_files`, which opens the two files. They are
-//! opened here and nowhere else. It is a crate of its own since it needs nothing of what is done with an archive.
+//! - `database_opening`, `laws`, `left`: the two files of a database, which are a file and the log beside it: opened
+//!   once, closed, and what is left of them.
+//! - `beside`, `making`, `opening`: an archive in a file and the log beside it: made, or opened.
 //!
-//! Callers may rely on: what is left of the two files is handed back in any case, so that a contract can say what they
-//! hold then; the caller closes them.
+//! Callers may rely on:
+//! - a function that is given a value of an `Openable` type opens its files at most once, and hands back what is left
+//!   of them: the value itself, where it did not open them; what an opening that failed has left; or the connection. So
+//!   a contract can say what the files hold then, whatever the function did.
+//! - what is left of the two files is handed back in any case, so that a contract can say what they hold then; the
+//!   caller closes them.
 #![tactic(auto)]
 
 mod beside;
+mod database_opening;
+pub mod laws;
+mod left;
 mod making;
 mod opening;
 
+pub use database_opening::Openable;
+pub use left::{Closed, ClosedFile, Left, LeftFile};
 pub use making::init;
 pub use opening::{ArchiveFile, open};

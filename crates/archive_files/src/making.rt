@@ -8,7 +8,8 @@ ghost use Rattle.store.specs.Creating.{IsSociety};
 ghost use Rattle.archive_files.specs.Made.{IsMadeIn, Unmade};
 
 use crate::beside::{may_have_log, take_away_log};
-use database_files::{Left, LeftFile, Openable};
+use crate::database_opening::Openable;
+use crate::left::{Left, LeftFile};
 use record_text::RefusalKind;
 use std::alloc::Global;
 use std::rt::HostRuntime;

@@ -3,10 +3,11 @@
 ghost use Rattle.std.specs.Prelude.{◌≡◌, false, IfErr, IfOk};
 ghost use Rattle.sqlite_wal.specs.Files.{image_at};
 ghost use Rattle.archive_files.specs.Opening.{IsTakenUp, Unopened};
-ghost use Rattle.database_files.specs.Opening.{IsOpenOver};
+ghost use Rattle.archive_files.specs.DatabaseOpening.{IsOpenOver};
 
 use crate::beside::{holds_nothing, may_have_log, take_away_log};
-use database_files::{Left, LeftFile, OpenFile, Openable};
+use crate::database_opening::Openable;
+use crate::left::{Left, LeftFile, OpenFile};
 use record_text::RefusalKind;
 use sqlite::{FileFrom, FileStore};
 use std::alloc::Global;

@@ -3,14 +3,14 @@ use Rattle.std.proofs.Common.{◌≡◌, ◌∙◌, ℕ, List, Bool, true, false
 use Rattle.std.specs.Prelude.{Option, Result, IfErr, option_map}
 use Rattle.sqlite.specs.State.{State}
 use Rattle.archive_state.specs.Content.{Content}
-use Rattle.archive_view.specs.Looks.{CountsFailures, Looked, is_failure}
+use Rattle.archive_state.specs.Looks.{CountsFailures, Looked, is_failure}
 use Rattle.devices.specs.Devices.{Rose}
 use Rattle.record_text.specs.declared.refusal.RefusalKind.{RefusalKind}
 use Rattle.store_tables.specs.Calls.{LeavesOnly, Settled}
 use Rattle.store_tables.specs.Rows.{Rows}
 use Rattle.store.specs.Viewing.{Shows}
 use Rattle.store.proofs.Viewed.{kept_of}
-use Rattle.archive_exports.proofs.Exported.{Viewed}
+use Rattle.archive_output.proofs.Exported.{Viewed}
 use Rattle.archive_lists.specs.Ends.{EndsWriting, OnRead}
 
 not_risen : Rose 0 0 → ⊥

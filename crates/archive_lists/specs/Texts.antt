@@ -3,8 +3,8 @@ use Rattle.std.specs.Prelude.{ℕ, List, [], ◌∷◌, ◌++◌, codes, fold, O
 use Rattle.std.specs.List.{flat_map}
 use Rattle.std.specs.FinMap.{entries}
 use Rattle.archive_state.specs.Content.{Content}
-use Rattle.finding.specs.Lines.{page}
-use Rattle.finding.specs.declared.wanted.Wanted.{Wanted}
+use Rattle.searching.specs.Lines.{page}
+use Rattle.searching.specs.declared.wanted.Wanted.{Wanted}
 use Rattle.showing.specs.Shown.{shown_at}
 
 -- a line with its end

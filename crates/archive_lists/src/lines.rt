@@ -2,13 +2,13 @@
 
 ghost use Rattle.std.specs.Prelude.{◌≡◌, ◌++◌, IfOk, OnOk, Some, option_map, string_bytes};
 ghost use Rattle.std.specs.List.{flat_map};
-ghost use Rattle.archive_view.specs.Looks.{CountsFailures, Looked};
-ghost use Rattle.archive_view.specs.Views.{On};
+ghost use Rattle.archive_state.specs.Looks.{CountsFailures, Looked};
+ghost use Rattle.archive_state.specs.Views.{On};
 ghost use Rattle.archive_lists.specs.Texts as texts;
 
-use archive_view::View;
-use finding::{Line, Wanted, page};
+use archive_state::View;
 use record_text::RefusalKind;
+use searching::{Line, Wanted, page};
 use std::alloc::{AllocError, Global};
 
 /// The lines of the first so many records after a number that are wanted, by number. There always is a text.

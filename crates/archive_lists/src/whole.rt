@@ -1,12 +1,12 @@
 //! Records, each whole, as a text.
 
 ghost use Rattle.std.specs.Prelude.{◌≡◌, IfOk, option_map, string_bytes};
-ghost use Rattle.archive_view.specs.Looks.{CountsFailures, Looked};
-ghost use Rattle.archive_view.specs.Views.{On};
+ghost use Rattle.archive_state.specs.Looks.{CountsFailures, Looked};
+ghost use Rattle.archive_state.specs.Views.{On};
 ghost use Rattle.showing.specs.Shown.{shown_at};
 ghost use Rattle.archive_lists.specs.Texts as texts;
 
-use archive_view::View;
+use archive_state::View;
 use record_text::RefusalKind;
 use showing::show;
 use std::alloc::{AllocError, Global};

@@ -3,8 +3,8 @@
 ghost use Rattle.std.specs.Prelude.{◌≡◌, ◌⊎◌, ℕ, List, Option, Some, false, true, IfErr, option_map, string_bytes};
 ghost use Rattle.std.specs.Io.KnownBytes.{Keeps};
 ghost use Rattle.sqlite.specs.Held.{state};
-ghost use Rattle.archive_exports.specs.Reading.{OnlyReads};
-ghost use Rattle.archive_view.specs.Looks.{Looked, is_failure, is_stop};
+ghost use Rattle.archive_output.specs.Reading.{OnlyReads};
+ghost use Rattle.archive_state.specs.Looks.{Looked, is_failure, is_stop};
 ghost use Rattle.devices.specs.Devices.{Rose};
 ghost use Rattle.record_text.specs.declared.refusal.RefusalKind.TheVariants.{BadStored, OutOfMemory, WriteFailed};
 ghost use Rattle.store.specs.Histories.{has_broken};
@@ -13,10 +13,10 @@ ghost use Rattle.archive_lists.specs.Texts as texts;
 
 use crate::lines::list_text;
 use crate::whole::shown_text;
-use archive_exports::write_text;
+use archive_output::write_text;
 use devices::Device;
-use finding::Wanted;
 use record_text::RefusalKind;
+use searching::Wanted;
 use sqlite::Alter;
 use std::alloc::Global;
 use std::io::Write;

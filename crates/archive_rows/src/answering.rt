@@ -4,7 +4,7 @@ use crate::asking::ask_tables;
 use crate::importing::answer_import;
 use crate::session::Session;
 use crate::tables::{make, run, show, write};
-use records::{RefusalKind, Text};
+use record_text::{RefusalKind, Text};
 use row_answers::{Noted, answer_noted, nothing, question_of};
 use row_words::{Answer, word, words_of};
 use sqlite::{Alter, Connection};

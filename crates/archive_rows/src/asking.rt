@@ -1,6 +1,6 @@
 //! Rows that ask what the tables hold.
 
-use records::RefusalKind;
+use record_text::RefusalKind;
 use row_answers::{Question, say_number_of, say_record_of, say_referrers, say_slip_of};
 use row_words::{Answer, say_receipt};
 use sqlite::{Alter, Connection};

@@ -1,7 +1,7 @@
 //! An import that is staged: opened, written, published, and taken out again, each row in commits of its own.
 
 use crate::session::Session;
-use records::RefusalKind;
+use record_text::RefusalKind;
 use row_answers::nothing;
 use row_words::{Answer, number, word};
 use sqlite::{Alter, Connection, Error};
@@ -32,7 +32,7 @@ pub(crate) fn answer_import<S: Alter + Drop>(
     }
 }
 
-/// Makes an import of what was noted, with the next number behind it, in an open batch.
+/// Makes an import of what was noted, with the next number after it, in an open batch.
 fn open<S: Alter + Drop>(
     alloc: Global,
     session: &mut Session<S>,

@@ -1,7 +1,7 @@
 //! The tables: what is written to them, and what they show.
 
 use archive_state::Changes;
-use records::RefusalKind;
+use record_text::RefusalKind;
 use row_words::{Answer, text};
 use sqlite::{Alter, Connection, Error, Row};
 use sqlite_value::value::ValueRef;
@@ -62,7 +62,7 @@ pub(crate) fn show<S: Alter>(conn: &mut Connection<S>, sql: &str, out: &mut Answ
     }
 }
 
-/// Says rows, a line each, with a tab behind each value.
+/// Says rows, a line each, with a tab after each value.
 fn say_rows(rows: &[Row], out: &mut Answer) {
     for row in rows {
         for at in 0..row.column_count() {

@@ -30,7 +30,7 @@ use Rattle.std.proofs.lemmas.Bool.{or_parts, eqb-false}
 use Rattle.record_kinds.specs.Model as model
 use Rattle.record_kinds.specs.declared.record.Record.{Record}
 use Rattle.record_kinds.specs.declared.record.Record.TheVariants as kind
-use Rattle.record_links.specs.Links.{Link, a_place, links, field_links, carried_links, is_wanted, is_among}
+use Rattle.archive_state.specs.Links.{Link, a_place, links, field_links, carried_links, is_wanted, is_among}
 use Rattle.record_shapes.specs.Fields.{path_below}
 use Rattle.record_shapes.specs.Lists.{EachOf}
 use Rattle.record_shapes.specs.Paths.{IsWithinLimits}

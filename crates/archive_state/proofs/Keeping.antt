@@ -27,7 +27,7 @@ use Rattle.std.specs.Str.{bytes_eq}
 use Rattle.record_kinds.specs.Model as model
 use Rattle.record_kinds.specs.declared.record.Record.{Record}
 use Rattle.record_kinds.specs.declared.record.Record.TheVariants as kind
-use Rattle.record_links.specs.Links.{
+use Rattle.archive_state.specs.Links.{
   Link,
   Wanted,
   a_place,
@@ -44,7 +44,7 @@ use Rattle.record_links.specs.Links.{
   carried_links,
   is_wanted,
 }
-use Rattle.record_links.specs.Carried.{carried_tags}
+use Rattle.archive_state.specs.Carried.{carried_tags}
 use Rattle.record_text.specs.Text.{IsText}
 use Rattle.record_shapes.specs.Lists.{EachOf}
 use Rattle.record_shapes.specs.Tags.{event_tags, is_event_tag}

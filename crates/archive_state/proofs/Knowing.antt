@@ -11,7 +11,7 @@ use Rattle.record_kinds.specs.declared.record.Record.{Record}
 use Rattle.record_kinds.specs.declared.record.Record.TheVariants as kind
 use Rattle.record_fields.specs.declared.entry_words.EntryKind.{EntryKind}
 use Rattle.record_fields.specs.Words.{entry_kind_of}
-use Rattle.record_links.specs.Links.{
+use Rattle.archive_state.specs.Links.{
   Link,
   a_place,
   at_level_0,

@@ -1,3 +1,5 @@
+pub mod LinkLinks
+pub mod Stored
 mod Entries
 pub mod Keyed
 mod Lowest
@@ -15,3 +17,8 @@ pub mod PathTexts
 mod Readable
 pub mod PathsAlike
 pub mod Later
+pub mod RenumberedLinks
+pub mod Texts
+pub mod Untaken
+pub mod RenumberedEntries
+pub mod Stops

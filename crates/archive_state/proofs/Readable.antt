@@ -33,7 +33,7 @@ use Rattle.stored_lines.specs.Tree.{Tree, node, list_of}
 use Rattle.record_kinds.specs.Model as model
 use Rattle.record_kinds.specs.declared.record.Record.{Record}
 use Rattle.record_kinds.specs.declared.record.Record.TheVariants as kind
-use Rattle.record_links.specs.Links.{
+use Rattle.archive_state.specs.Links.{
   Link,
   a_place,
   a_repo,

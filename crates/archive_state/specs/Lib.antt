@@ -1,3 +1,6 @@
+pub mod Links
+pub mod Carried
+pub mod Stored
 pub mod Applied
 pub mod Changes
 pub mod Content
@@ -10,3 +13,5 @@ pub mod Slips
 pub mod Sound
 pub mod Texts
 pub mod Owned
+pub mod Looks
+pub mod Views

@@ -133,7 +133,7 @@ abbrev pub second_sex : Option Sex → Option Sex → Lines
 second_sex (Some s) (Some t) = node (record { tag = codes "SEX"; value = value.Text (sex_word t) }) none ∷ []
 second_sex _ _ = []
 
--- names and carried lines of the other are added behind
+-- names and carried lines of the other are added after
 abbrev pub joined_person : model.Person → model.Person → model.Person
 joined_person k g = record {
   names = k.names ++ g.names;

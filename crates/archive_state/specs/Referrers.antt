@@ -3,7 +3,7 @@ use Rattle.std.specs.Prelude.{ℕ, List, map}
 use Rattle.std.specs.List.{filter}
 use Rattle.std.specs.FinMap.{entries}
 use Rattle.record_kinds.specs.declared.record.Record.{Record}
-use Rattle.record_links.specs.Links.{links, is_among}
+use Rattle.archive_state.specs.Links.{links, is_among}
 use Rattle.archive_state.specs.Content.{Content}
 
 -- the numbers of those that name a number, of records in the order of their numbers

@@ -28,7 +28,7 @@ use Rattle.record_kinds.specs.Model as model
 use Rattle.record_kinds.specs.declared.record.Record.{Record}
 use Rattle.record_kinds.specs.declared.record.Record.TheVariants as kind
 use Rattle.archive_state.specs.declared.slip.Change.{Change}
-use Rattle.record_links.specs.Carried.{carried_tags}
+use Rattle.archive_state.specs.Carried.{carried_tags}
 use Rattle.archive_state.specs.Content.{Content, Records}
 use Rattle.record_shapes.specs.Tags.{is_event_tag}
 use Rattle.record_shapes.specs.Roles.{HasMentions, is_role_of}
@@ -40,7 +40,7 @@ use Rattle.record_shapes.specs.Untaken.{HasUntaken}
 use Rattle.record_shapes.specs.Readable.{IsReadableOther}
 use Rattle.archive_state.specs.Known.{known_of, known_before}
 use Rattle.record_text.specs.Text.{IsTag, IsText}
-use Rattle.record_links.specs.Links.{Link, links, names, is_wanted}
+use Rattle.archive_state.specs.Links.{Link, links, names, is_wanted}
 use Rattle.archive_state.specs.Merging.{merged, clashes}
 use Rattle.record_shapes.specs.Paths.{IsNormal, IsWithinLimits, has_part}
 use Rattle.archive_state.specs.Paths.{HasPath}

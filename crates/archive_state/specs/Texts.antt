@@ -9,7 +9,7 @@ use Rattle.record_fields.specs.declared.date.Date.{Date}
 use Rattle.record_kinds.specs.Model as model
 use Rattle.record_kinds.specs.declared.record.Record.{Record}
 use Rattle.record_kinds.specs.declared.record.Record.TheVariants as kind
-use Rattle.record_links.specs.Carried.{carried}
+use Rattle.archive_state.specs.Carried.{carried}
 
 -- a text that may be missing
 abbrev pub there : Option (List ℕ) → List (List ℕ)

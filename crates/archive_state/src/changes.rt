@@ -2,7 +2,7 @@
 
 use crate::slip::Slip;
 use receipts::{Answer, Receipt, Token};
-use records::Record;
+use record_kinds::Record;
 use std::marker::Model;
 
 /// A number and the record that stands there.

@@ -5,7 +5,9 @@ ghost use Rattle.record_kinds.specs.Model as model;
 ghost use Rattle.record_kinds.specs.declared.record.Record.TheVariants as variant;
 ghost use Rattle.archive_state.specs.Entries.{HasKey};
 
-use records::{Entry, EntryKind, Item, Record, Text};
+use record_fields::{EntryKind, Item};
+use record_kinds::{Entry, Record};
+use record_text::Text;
 
 /// Whether the record is an entry of that source, kind, page and item.
 pub fn is_entry_of(found: &Record, source: u32, kind: EntryKind, page: &Text, item: Item) -> bool

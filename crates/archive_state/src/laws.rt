@@ -1,10 +1,15 @@
+//! What holds of the numbers in a record.
+//!
 //! What holds between the calls.
 
-ghost use Rattle.std.specs.Prelude.{◌≡◌, ◌↔◌, ℕ, List, Option, Some};
+ghost use Rattle.std.specs.Prelude.{◌≡◌, ℕ, ◌↔◌, List, Option, Some};
+ghost use Rattle.record_kinds.specs.declared.record.Record.{Record};
+ghost use Rattle.records.specs.Stored.{stored};
+ghost use Rattle.archive_state.specs.Links.{is_among, links};
+ghost use Rattle.archive_state.specs.Stored.{some_line_names};
 ghost use Rattle.record_fields.specs.declared.entry_words.EntryKind.{EntryKind};
 ghost use Rattle.record_fields.specs.declared.item.Item.{Item};
 ghost use Rattle.stored_lines.specs.Tree.{Tree};
-ghost use Rattle.record_kinds.specs.declared.record.Record.{Record};
 ghost use Rattle.record_shapes.specs.Readable.{IsReadable};
 ghost use Rattle.record_shapes.specs.Shapes.{Around};
 ghost use Rattle.archive_state.specs.Content.{Content, Records};
@@ -13,6 +18,11 @@ ghost use Rattle.archive_state.specs.Known.{known_before, known_of, path_of};
 ghost use Rattle.archive_state.specs.Owned.{IsAround, IsWithOwned};
 ghost use Rattle.archive_state.specs.Paths.{HasPath, IsLowest};
 ghost use Rattle.archive_state.specs.Sound.{IsSound};
+
+/// The lines that a record is kept as have the numbers that the record names, and no others.
+pub fn lines_have_the_numbers_that_a_record_names()
+    ensures { (r : Record) (n : ℕ) → some_line_names n (stored r) ≡ is_among n (links r) }
+{}
 
 /// A place has one path at the most.
 pub fn a_place_has_one_path()

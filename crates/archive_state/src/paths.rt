@@ -5,7 +5,7 @@ ghost use Rattle.record_kinds.specs.Model as model;
 ghost use Rattle.archive_state.specs.Paths.{HasPath, IsPlaceAt};
 
 use crate::state::State;
-use records::{Place, Record};
+use record_kinds::{Place, Record};
 
 /// Whether the place of a number has this path. A place whose parent has no smaller number has none.
 pub(crate) fn has_path(state: &State, number: u32, path: &[u8]) -> bool
@@ -41,7 +41,7 @@ fn place_of(state: &State, number: u32) -> Option<&Place>
     }
 }
 
-/// What stands behind the front, where the bytes begin with it.
+/// What stands after the front, where the bytes begin with it.
 fn behind<'a>(bytes: &'a [u8], front: &[u8]) -> Option<&'a [u8]>
     ensures { MatchOption result
         ((rest : List ℕ) → bytes.now ≢ front.now ++ rest) (λ rest. bytes.now ≡ front.now ++ rest.now) }

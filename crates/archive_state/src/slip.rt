@@ -2,7 +2,8 @@
 
 ghost use Rattle.std.specs.Prelude.{◌≡◌, IfOk};
 
-use records::{Record, copy_record};
+use record_kinds::Record;
+use records::copy_record;
 use std::alloc::{AllocError, Global};
 use std::marker::Model;
 

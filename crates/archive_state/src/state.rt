@@ -10,11 +10,13 @@ ghost use Rattle.archive_state.specs.Entries.{IsEntryAt};
 ghost use Rattle.archive_state.specs.Paths.{HasPath, IsLowest};
 
 use crate::keys::is_entry_of;
+use crate::naming::is_naming;
 use crate::paths::has_path;
 use crate::slip::Slip;
 use receipts::{Receipt, Token};
-use record_links::is_naming;
-use records::{EntryKind, Item, Record, Text};
+use record_fields::{EntryKind, Item};
+use record_kinds::Record;
+use record_text::Text;
 use std::alloc::{AllocError, Global};
 use std::collections::BTreeMap;
 use std::marker::Model;

@@ -39,7 +39,7 @@ use Rattle.record_fields.specs.declared.entry_words.Role.{Role}
 use Rattle.record_kinds.specs.Model as model
 use Rattle.record_kinds.specs.declared.record.Record.{Record}
 use Rattle.record_kinds.specs.declared.record.Record.TheVariants as kind
-use Rattle.record_links.specs.Links.{Link, a_place, a_source, a_person, field_links, links, mention_links}
+use Rattle.archive_state.specs.Links.{Link, a_place, a_source, a_person, field_links, links, mention_links}
 use Rattle.record_shapes.specs.Lists.{EachOf}
 use Rattle.record_shapes.specs.Roles.{is_role_of}
 use Rattle.archive_state.specs.Changes.{Changes}
@@ -48,23 +48,23 @@ use Rattle.archive_state.specs.Entries.{IsEntryAt}
 use Rattle.archive_state.specs.Sound.{HasSaidPlace, HasSoundMentions, IsSound, Stands}
 use Rattle.archive_state.specs.Texts.{own_texts, date_texts, mention_texts}
 use Rattle.archive_state.proofs.Keeping.{IsAlike}
-use Rattle.archive_view.specs.Looks.{Agrees, is_stop}
+use Rattle.archive_state.specs.Looks.{Agrees, is_stop}
 use Rattle.commands.specs.Rows.{and_then}
 use Rattle.commands.specs.Mentions.{IsCount}
 use Rattle.commands.specs.declared.entry_row.EntryRow.{EntryRow}
 use Rattle.commands.specs.declared.entry_row.GivenMention.{GivenMention}
-use Rattle.archive_looks.proofs.Likes.{none_there}
-use Rattle.archive_looks.specs.Checks.{date_in, each, passed, text_in}
-use Rattle.archive_looks.specs.Entries.{key_is_free}
-use Rattle.archive_looks.specs.Entries.{mention_in, mentions_in, role_for, role_in}
+use Rattle.command_checks.proofs.Likes.{none_there}
+use Rattle.command_checks.specs.Checks.{date_in, each, passed, text_in}
+use Rattle.command_checks.specs.Entries.{key_is_free}
+use Rattle.command_checks.specs.Entries.{mention_in, mentions_in, role_for, role_in}
 use Rattle.archive_steps.specs.Steps.{entry_of, has_mention, linked, relinked, with_link}
 use Rattle.archive_steps.specs.Words.{IsUtf8Entry, IsUtf8Mention}
 use Rattle.archive_steps.proofs.Fitting.{PlaceAt, IsFresh, fresh_at_next, not_fresh, none_at_next, over}
-use Rattle.archive_looks.specs.Applied.{Plans}
+use Rattle.command_checks.specs.Applied.{Plans}
 use Rattle.archive_steps.proofs.Keeping.{IsFit}
 use Rattle.archive_steps.proofs.Same.{put_same}
 use Rattle.archive_steps.proofs.Worded.{maybe_date, text_found}
-use Rattle.archive_merge.proofs.Alike.{entries_alike}
+use Rattle.merging.proofs.Alike.{entries_alike}
 use Rattle.commands.proofs.Chains.{both_answered}
 use Rattle.record_shapes.proofs.Each.{each_both, each_front, each_back}
 

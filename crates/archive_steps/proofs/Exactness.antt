@@ -13,8 +13,8 @@ use Rattle.archive_state.specs.Changes.{Changes}
 use Rattle.archive_state.specs.Content.{Content}
 use Rattle.archive_state.specs.declared.changes.Kept.{Kept}
 use Rattle.receipts.specs.declared.answer.Answer.{Answer}
-use Rattle.archive_looks.specs.Checks.{person_in, family_in, event_in}
-use Rattle.archive_looks.specs.Exact.{IsExact}
+use Rattle.command_checks.specs.Checks.{person_in, family_in, event_in}
+use Rattle.command_checks.specs.Exact.{IsExact}
 use Rattle.archive_steps.specs.Steps.{
   or_kept_date,
   plain_name,
@@ -25,7 +25,7 @@ use Rattle.archive_steps.specs.Steps.{
   with_participant,
 }
 use Rattle.archive_steps.proofs.Fitting.{none_at_next}
-use Rattle.archive_looks.proofs.Found.{person_found, family_found, event_found}
+use Rattle.command_checks.proofs.Found.{person_found, family_found, event_found}
 use Rattle.archive_steps.proofs.Same.{put_same}
 
 longer : {A : Type 0} (xs : List A) (x : A) → xs ++ (x ∷ []) ≢ xs

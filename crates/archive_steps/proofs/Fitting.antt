@@ -43,7 +43,7 @@ use Rattle.stored_lines.specs.Line.{Line, Lines}
 use Rattle.record_kinds.specs.Model as model
 use Rattle.record_kinds.specs.declared.record.Record.{Record}
 use Rattle.record_kinds.specs.declared.record.Record.TheVariants as kind
-use Rattle.record_links.specs.Links.{
+use Rattle.archive_state.specs.Links.{
   Link,
   a_place,
   a_person,
@@ -57,7 +57,7 @@ use Rattle.record_links.specs.Links.{
   place_line_links,
   carried_links,
 }
-use Rattle.record_links.specs.Carried.{carried, carried_tags, tags, place_line_carried}
+use Rattle.archive_state.specs.Carried.{carried, carried_tags, tags, place_line_carried}
 use Rattle.record_shapes.specs.Forms.{is_some}
 use Rattle.record_shapes.specs.declared.field.Field.{Field}
 use Rattle.record_shapes.specs.Fields.{person_field, event_field, participant_field}
@@ -73,7 +73,7 @@ use Rattle.archive_state.specs.Paths.{HasPath}
 use Rattle.record_shapes.specs.Lists.{EachOf, IsOnce}
 use Rattle.record_shapes.specs.Members.{members}
 use Rattle.archive_state.specs.Sound.{IsOfRecords, HasSaidPlace, HasEventTag, Stands, IsSound, owner_in}
-use Rattle.archive_looks.specs.Checks.{tags_of, is_tag_of}
+use Rattle.command_checks.specs.Checks.{tags_of, is_tag_of}
 use Rattle.archive_steps.specs.Steps.{
   plain_name,
   plain_person,
@@ -92,11 +92,11 @@ use Rattle.archive_steps.specs.Steps.{
   or_kept_text,
   with_fields,
 }
-use Rattle.archive_looks.specs.declared.looks.Owner.{Owner}
-use Rattle.archive_looks.specs.declared.looks.Owner.TheVariants as owner
+use Rattle.command_checks.specs.declared.looks.Owner.{Owner}
+use Rattle.command_checks.specs.declared.looks.Owner.TheVariants as owner
 use Rattle.archive_state.proofs.Keeping.{IsAlike}
 use Rattle.archive_steps.proofs.Keeping.{IsFit}
-use Rattle.archive_merge.proofs.Alike.{events_alike, families_alike, persons_alike}
+use Rattle.merging.proofs.Alike.{events_alike, families_alike, persons_alike}
 use Rattle.list_laws.proofs.Numbers.{other_way}
 use Rattle.list_laws.proofs.Lists.{any_mapped}
 use Rattle.record_shapes.proofs.Each.{more_leave, each_both, each_front, each_back}

@@ -46,7 +46,7 @@ use Rattle.commands.specs.Rows.{and_then}
 use Rattle.commands.specs.Sound.{WhereSome}
 use Rattle.commands.specs.declared.row_command.RowCommand.{RowCommand}
 use Rattle.commands.specs.declared.row_command.RowCommand.TheVariants as row_command
-use Rattle.archive_looks.specs.Checks.{
+use Rattle.command_checks.specs.Checks.{
   text_in,
   date_in,
   person_at,
@@ -69,11 +69,11 @@ use Rattle.archive_looks.specs.Checks.{
   place_name,
   place_name_in,
 }
-use Rattle.archive_looks.specs.Entries.{entry_at, key_is_free, not_empty, reason_in, texts_fit}
-use Rattle.archive_looks.proofs.Likes.{entry_is_found}
-use Rattle.archive_merge.specs.Steps.{RowStep, merge_step, undo_step}
-use Rattle.archive_merge.proofs.Drawing.{merge_draws, merge_uses_none, undo_draws, undo_uses_none}
-use Rattle.archive_merge.proofs.Stepping.{merged_by, merged_sound, undone_by, undone_sound}
+use Rattle.command_checks.specs.Entries.{entry_at, key_is_free, not_empty, reason_in, texts_fit}
+use Rattle.command_checks.proofs.Likes.{entry_is_found}
+use Rattle.merging.specs.Steps.{RowStep, merge_step, undo_step}
+use Rattle.merging.proofs.Drawing.{merge_draws, merge_uses_none, undo_draws, undo_uses_none}
+use Rattle.merging.proofs.Stepping.{merged_by, merged_sound, undone_by, undone_sound}
 use Rattle.archive_steps.proofs.Entered.{LinkAt, entry_found, new_entry_fits, relinked_fits}
 use Rattle.archive_steps.specs.Steps.{
   entry_of,
@@ -99,18 +99,18 @@ use Rattle.archive_steps.specs.Steps.{
   is_partner,
   is_child,
 }
-use Rattle.place_paths.specs.Fits.{new_path, is_fit}
+use Rattle.command_checks.specs.Fits.{new_path, is_fit}
 use Rattle.record_text.specs.Text.{IsText}
 use Rattle.record_shapes.specs.Paths.{IsNormal}
-use Rattle.archive_looks.proofs.PlaceNames.{name_taken}
+use Rattle.command_checks.proofs.PlaceNames.{name_taken}
 use Rattle.archive_steps.proofs.Placed.{PlacedAt, place_keeps}
-use Rattle.archive_looks.specs.Numbers.{Draws, UsesNoneAgain}
+use Rattle.command_checks.specs.Numbers.{Draws, UsesNoneAgain}
 use Rattle.archive_steps.specs.Words.{IsUtf8Date, IsUtf8Entry, IsUtf8Row}
-use Rattle.archive_looks.specs.declared.kinds.Demand.TheVariants as demand
-use Rattle.archive_looks.specs.declared.looks.Owner.{Owner}
+use Rattle.command_checks.specs.declared.kinds.Demand.TheVariants as demand
+use Rattle.command_checks.specs.declared.looks.Owner.{Owner}
 use Rattle.archive_state.proofs.Putting.{put_elsewhere, put_here}
 use Rattle.archive_steps.proofs.Keeping.{IsFit, put_keeps}
-use Rattle.archive_looks.proofs.Found.{
+use Rattle.command_checks.proofs.Found.{
   person_found,
   family_found,
   event_found,
@@ -121,7 +121,7 @@ use Rattle.archive_looks.proofs.Found.{
   passes,
 }
 use Rattle.archive_steps.proofs.Named.{gone_still, removed_sound}
-use Rattle.archive_looks.proofs.SaidPaths.{said_has_part}
+use Rattle.command_checks.proofs.SaidPaths.{said_has_part}
 use Rattle.archive_steps.proofs.Sourced.{
   RepoAt,
   new_repo_fits,

@@ -6,8 +6,8 @@ use Rattle.std.specs.FinMap.{get, insert}
 use Rattle.record_kinds.specs.Model as model
 use Rattle.record_kinds.specs.declared.record.Record.{Record}
 use Rattle.record_kinds.specs.declared.record.Record.TheVariants as kind
-use Rattle.record_links.specs.Links.{Link, a_place, links, is_wanted}
-use Rattle.record_links.specs.Carried.{carried_tags}
+use Rattle.archive_state.specs.Links.{Link, a_place, links, is_wanted}
+use Rattle.archive_state.specs.Carried.{carried_tags}
 use Rattle.record_text.specs.Text.{IsText}
 use Rattle.record_shapes.specs.Lists.{EachOf}
 use Rattle.record_shapes.specs.Levels.{HasRoom}

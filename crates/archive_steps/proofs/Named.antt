@@ -8,12 +8,12 @@ use Rattle.std.specs.Ordering.{nat_cmp, eq_by_cmp, is_eq}
 use Rattle.std.specs.declared.cmp.Ordering.TheVariants.{Less, Equal, Greater}
 use Rattle.std.proofs.lemmas.Bool.{or_parts}
 use Rattle.record_kinds.specs.declared.record.Record.{Record}
-use Rattle.record_links.specs.Links.{links, is_among}
+use Rattle.archive_state.specs.Links.{links, is_among}
 use Rattle.archive_state.specs.Content.{Content, Records}
 use Rattle.archive_state.specs.Referrers.{naming}
 use Rattle.archive_state.specs.Sound.{EachIn, IsSound}
 use Rattle.archive_state.proofs.Changing.{less_keeps}
-use Rattle.archive_looks.specs.Checks.{is_named}
+use Rattle.command_checks.specs.Checks.{is_named}
 
 -- a number is another
 abbrev is_other : ℕ → ℕ → Bool

@@ -6,7 +6,7 @@ use Rattle.std.proofs.lemmas.Bool.{lt-ltb}
 use Rattle.record_text.specs.Text.{IsText}
 use Rattle.record_kinds.specs.declared.record.Record.{Record}
 use Rattle.record_kinds.specs.declared.record.Record.TheVariants as kind
-use Rattle.record_links.specs.Links.{a_place, field_links, is_wanted}
+use Rattle.archive_state.specs.Links.{a_place, field_links, is_wanted}
 use Rattle.record_shapes.specs.Fields.{path_below}
 use Rattle.record_shapes.specs.Lists.{EachOf}
 use Rattle.record_shapes.specs.Paths.{IsNormal, IsWithinLimits}
@@ -19,7 +19,7 @@ use Rattle.archive_state.proofs.Climbing.{stands_there}
 use Rattle.archive_state.proofs.Keeping.{KeepsRules, stands_as}
 use Rattle.archive_state.proofs.Known.{path_known}
 use Rattle.archive_state.proofs.Putting.{put_cases, put_elsewhere, put_here}
-use Rattle.place_paths.specs.Fits.{new_path, is_fit}
+use Rattle.command_checks.specs.Fits.{new_path, is_fit}
 use Rattle.archive_steps.specs.Steps.{place_within}
 use Rattle.archive_steps.proofs.Fitting.{none_at_next}
 use Rattle.record_shapes.proofs.Limits.{limits_are, none_within}

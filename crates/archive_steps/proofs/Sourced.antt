@@ -9,8 +9,8 @@ use Rattle.record_fields.specs.declared.words.Quality.{Quality}
 use Rattle.record_kinds.specs.Model as model
 use Rattle.record_kinds.specs.declared.record.Record.{Record}
 use Rattle.record_kinds.specs.declared.record.Record.TheVariants as kind
-use Rattle.record_links.specs.Links.{a_repo, a_source, a_cited, links}
-use Rattle.record_links.specs.Carried.{carried_tags}
+use Rattle.archive_state.specs.Links.{a_repo, a_source, a_cited, links}
+use Rattle.archive_state.specs.Carried.{carried_tags}
 use Rattle.record_shapes.specs.Levels.{HasRoom, room_below}
 use Rattle.record_shapes.specs.Lists.{EachOf}
 use Rattle.record_shapes.specs.Untaken.{HasUntaken}
@@ -20,7 +20,7 @@ use Rattle.archive_state.specs.Sound.{IsOfRecords, Stands, IsSound}
 use Rattle.archive_state.specs.Texts.{own_texts, carried_texts}
 use Rattle.archive_state.specs.Texts as texts
 use Rattle.commands.specs.Rows.{and_then}
-use Rattle.archive_looks.specs.Checks.{need, text_in, or_no_text, maybe_text_in}
+use Rattle.command_checks.specs.Checks.{need, text_in, or_no_text, maybe_text_in}
 use Rattle.archive_steps.specs.Steps.{plain_repo, plain_source, plain_citation, lacks_repo, given_source}
 use Rattle.archive_steps.proofs.Fitting.{fresh_at_next, anew}
 use Rattle.archive_steps.proofs.Keeping.{IsFit}

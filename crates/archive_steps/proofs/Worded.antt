@@ -15,7 +15,7 @@ use Rattle.commands.specs.Fields.{is_text, text_of}
 use Rattle.commands.specs.Given.{GivenDate}
 use Rattle.commands.specs.Rows.{and_then, ok_or}
 use Rattle.commands.specs.Sound.{WhereSome}
-use Rattle.archive_looks.specs.Checks.{text_in, date_in, each}
+use Rattle.command_checks.specs.Checks.{text_in, date_in, each}
 use Rattle.archive_steps.specs.Words.{IsUtf8Date}
 
 as_text : (words : List ℕ) → IsUtf8 words → is_text words ≡ true → IsText words

@@ -50,7 +50,7 @@ use Rattle.commands.specs.Rows.{and_then}
 use Rattle.commands.specs.declared.entry_row.EntryRow.{EntryRow}
 use Rattle.commands.specs.declared.row_command.RowCommand.{RowCommand}
 use Rattle.commands.specs.declared.row_command.RowCommand.TheVariants as row_command
-use Rattle.archive_looks.specs.Checks.{
+use Rattle.command_checks.specs.Checks.{
   need,
   passed,
   each,
@@ -69,9 +69,9 @@ use Rattle.archive_looks.specs.Checks.{
   said_place_at,
   next_free,
 }
-use Rattle.archive_looks.specs.Entries.{texts_fit, reason_in, mentions_in, entry_at, key_is_free}
-use Rattle.archive_looks.specs.declared.kinds.Demand.TheVariants as demand
-use Rattle.archive_merge.specs.Steps.{RowStep, merge_step, undo_step}
+use Rattle.command_checks.specs.Entries.{texts_fit, reason_in, mentions_in, entry_at, key_is_free}
+use Rattle.command_checks.specs.declared.kinds.Demand.TheVariants as demand
+use Rattle.merging.specs.Steps.{RowStep, merge_step, undo_step}
 
 -- a new record at the next number, where one is left
 abbrev pub creates : Content → Record → RowStep
@@ -319,7 +319,7 @@ new_citation c owner source page quality =
     and_then (demanded_at c demand.Source source) (λ _.
     creates c (kind.Citation (plain_citation owner source p quality)))))
 
--- the words are looked at first, and the roles of mentions and the key behind source and place
+-- the words are looked at first, and the roles of mentions and the key after source and place
 abbrev pub new_entry : Content → ℕ → EntryRow → RowStep
 new_entry c source row =
     and_then (texts_fit row) (λ _.

@@ -3,22 +3,22 @@
 ghost use Rattle.std.specs.Prelude.{◌≡◌, ◌↔◌, ◌-◌, ◌++◌, IfErr, IfOk, IsTrue, Some, drop, false, take};
 ghost use Rattle.std.specs.FinMap as map;
 ghost use Rattle.record_kinds.specs.declared.record.Record.TheVariants as kind;
-ghost use Rattle.archive_view.specs.Looks.{Agrees, CountsFailures, is_failure, is_stop};
-ghost use Rattle.archive_view.specs.Views.{On};
-ghost use Rattle.archive_looks.specs.Applied.{Plans};
-ghost use Rattle.archive_looks.specs.Exact.{IsExact};
+ghost use Rattle.archive_state.specs.Looks.{Agrees, CountsFailures, is_failure, is_stop};
+ghost use Rattle.archive_state.specs.Views.{On};
+ghost use Rattle.command_checks.specs.Applied.{Plans};
+ghost use Rattle.command_checks.specs.Exact.{IsExact};
 ghost use Rattle.archive_steps.specs.Steps as steps;
 
 use crate::families::check_person;
 use crate::making::{creates, kept_if, replaces, unchanged};
-use archive_looks::{
+use archive_state::{Changes, View};
+use command_checks::{
     Demand, check_demand, check_key, check_place, check_texts, date_in, entry_at, push_mentions,
     reason_in, text_in,
 };
-use archive_state::Changes;
-use archive_view::View;
 use commands::{EntryRow, Field};
-use records::{Entry, Link, Mention, Record, RefusalKind};
+use record_kinds::{Entry, Link, Mention, Record};
+use record_text::RefusalKind;
 use std::alloc::Global;
 
 /// A new register entry of a source.

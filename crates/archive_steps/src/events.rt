@@ -1,21 +1,22 @@
 //! The commands on events.
 
 ghost use Rattle.std.specs.Prelude.{◌≡◌, ◌↔◌, [], IfOk, IsTrue, false, option_map};
-ghost use Rattle.archive_view.specs.Looks.{CountsFailures};
-ghost use Rattle.archive_view.specs.Views.{On};
+ghost use Rattle.archive_state.specs.Looks.{CountsFailures};
+ghost use Rattle.archive_state.specs.Views.{On};
 ghost use Rattle.record_kinds.specs.Model as model;
-ghost use Rattle.archive_looks.specs.Applied.{Plans};
-ghost use Rattle.archive_looks.specs.Checks as checks;
-ghost use Rattle.archive_looks.specs.Exact.{IsExact};
+ghost use Rattle.command_checks.specs.Applied.{Plans};
+ghost use Rattle.command_checks.specs.Checks as checks;
+ghost use Rattle.command_checks.specs.Exact.{IsExact};
 ghost use Rattle.archive_steps.specs.Steps as steps;
 
 use crate::families::check_person;
 use crate::making::{creates, kept_if, replaces, unchanged};
-use archive_looks::{check_place, date_in, event_at, tag_of, text_in};
-use archive_state::Changes;
-use archive_view::View;
+use archive_state::{Changes, View};
+use command_checks::{check_place, date_in, event_at, tag_of, text_in};
 use commands::{Field, GivenDate};
-use records::{Date, Event, EventPlace, Participant, Record, RefusalKind, Tag, Text};
+use record_fields::Date;
+use record_kinds::{Event, EventPlace, Participant, Record};
+use record_text::{RefusalKind, Tag, Text};
 use std::alloc::{AllocError, Global};
 
 /// A new event of a person or a family.
@@ -208,7 +209,7 @@ fn at_place(old: EventPlace, place: u32) -> EventPlace
     at
 }
 
-/// Adds a participant behind the others.
+/// Adds a participant after the others.
 fn with_participant(
     alloc: Global,
     event: Event,

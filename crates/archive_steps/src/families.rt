@@ -1,19 +1,20 @@
 //! The commands on families.
 
 ghost use Rattle.std.specs.Prelude.{◌≡◌, ◌==◌, ◌||◌, [], IfOk};
-ghost use Rattle.archive_view.specs.Looks.{Agrees, CountsFailures, is_stop};
-ghost use Rattle.archive_view.specs.Views.{On};
+ghost use Rattle.archive_state.specs.Looks.{Agrees, CountsFailures, is_stop};
+ghost use Rattle.archive_state.specs.Views.{On};
 ghost use Rattle.record_kinds.specs.Model as model;
-ghost use Rattle.archive_looks.specs.Applied.{Plans};
-ghost use Rattle.archive_looks.specs.Checks as checks;
-ghost use Rattle.archive_looks.specs.Exact.{IsExact};
+ghost use Rattle.command_checks.specs.Applied.{Plans};
+ghost use Rattle.command_checks.specs.Checks as checks;
+ghost use Rattle.command_checks.specs.Exact.{IsExact};
 ghost use Rattle.archive_steps.specs.Steps as steps;
 
 use crate::making::{creates, kept_if, replaces};
-use archive_looks::{family_at, person_at};
-use archive_state::Changes;
-use archive_view::View;
-use records::{Child, Family, Partner, Partnership, Record, RefusalKind};
+use archive_state::{Changes, View};
+use command_checks::{family_at, person_at};
+use record_fields::Partnership;
+use record_kinds::{Child, Family, Partner, Record};
+use record_text::RefusalKind;
 use std::alloc::{AllocError, Global};
 
 /// A new family.
@@ -144,7 +145,7 @@ fn is_child(family: &Family, person: u32) -> bool
     family.children.iter().any(|c| c.person == person)
 }
 
-/// Adds a child behind the others.
+/// Adds a child after the others.
 fn with_child(alloc: Global, family: Family, person: u32) -> Result<Family, AllocError>
     ensures { IfOk result (λ f. f ≡ steps.with_child person family) }
 {

@@ -2,16 +2,17 @@
 
 ghost use Rattle.std.specs.Prelude.{◌≡◌, ◌≢◌, ◌+◌, ◌∷◌, [], IfErr, IfOk, None, Some, Err, Ok};
 ghost use Rattle.std.specs.FinMap as map;
-ghost use Rattle.archive_view.specs.Looks.{CountsFailures};
-ghost use Rattle.archive_view.specs.Views.{On};
-ghost use Rattle.archive_looks.specs.Applied.{Plans};
-ghost use Rattle.archive_looks.specs.Exact.{IsExact};
+ghost use Rattle.archive_state.specs.Looks.{CountsFailures};
+ghost use Rattle.archive_state.specs.Views.{On};
+ghost use Rattle.command_checks.specs.Applied.{Plans};
+ghost use Rattle.command_checks.specs.Exact.{IsExact};
 ghost use Rattle.archive_steps.specs.Steps as steps;
 
-use archive_looks::next_free;
-use archive_state::{Answer, Changes, Numbered};
-use archive_view::View;
-use records::{Record, RefusalKind};
+use archive_state::{Changes, Numbered, View};
+use command_checks::next_free;
+use receipts::Answer;
+use record_kinds::Record;
+use record_text::RefusalKind;
 use std::alloc::{AllocError, Global};
 
 /// The answer of a command that makes no record.

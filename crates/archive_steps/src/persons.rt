@@ -1,18 +1,19 @@
 //! The commands on persons.
 
 ghost use Rattle.std.specs.Prelude.{◌≡◌, ◌↔◌, IfOk, IsTrue, Some};
-ghost use Rattle.archive_view.specs.Looks.{CountsFailures};
-ghost use Rattle.archive_view.specs.Views.{On};
-ghost use Rattle.archive_looks.specs.Applied.{Plans};
-ghost use Rattle.archive_looks.specs.Exact.{IsExact};
+ghost use Rattle.archive_state.specs.Looks.{CountsFailures};
+ghost use Rattle.archive_state.specs.Views.{On};
+ghost use Rattle.command_checks.specs.Applied.{Plans};
+ghost use Rattle.command_checks.specs.Exact.{IsExact};
 ghost use Rattle.archive_steps.specs.Steps as steps;
 
 use crate::making::{creates, one, replaces, unchanged};
-use archive_looks::{person_at, text_in};
-use archive_state::Changes;
-use archive_view::View;
+use archive_state::{Changes, View};
+use command_checks::{person_at, text_in};
 use commands::Field;
-use records::{Name, Person, Record, RefusalKind, Sex, Text};
+use record_fields::Sex;
+use record_kinds::{Name, Person, Record};
+use record_text::{RefusalKind, Text};
 use std::alloc::{AllocError, Global};
 
 /// A new person.
@@ -101,7 +102,7 @@ fn plain_person(alloc: Global, name: Text, sex: Option<Sex>) -> Result<Person, A
     })
 }
 
-/// Adds a name behind the others.
+/// Adds a name after the others.
 fn with_name(alloc: Global, person: Person, name: Text) -> Result<Person, AllocError>
     ensures { IfOk result (λ p. p ≡ steps.with_name name person) }
 {

@@ -1,18 +1,18 @@
 //! The command that makes a place.
 
 ghost use Rattle.std.specs.Prelude.{◌≡◌, IfOk};
-ghost use Rattle.archive_view.specs.Looks.{CountsFailures};
-ghost use Rattle.archive_view.specs.Views.{On};
-ghost use Rattle.archive_looks.specs.Applied.{Plans};
-ghost use Rattle.archive_looks.specs.Exact.{IsExact};
+ghost use Rattle.archive_state.specs.Looks.{CountsFailures};
+ghost use Rattle.archive_state.specs.Views.{On};
+ghost use Rattle.command_checks.specs.Applied.{Plans};
+ghost use Rattle.command_checks.specs.Exact.{IsExact};
 ghost use Rattle.archive_steps.specs.Steps as steps;
 
 use crate::making::{creates, kept_if};
-use archive_looks::{Demand, check_optional, check_path, place_name_in};
-use archive_state::Changes;
-use archive_view::View;
+use archive_state::{Changes, View};
+use command_checks::{Demand, check_optional, check_path, place_name_in};
 use commands::Field;
-use records::{Place, Record, RefusalKind, Text};
+use record_kinds::{Place, Record};
+use record_text::{RefusalKind, Text};
 use std::alloc::Global;
 
 /// A new place, within another one or none.

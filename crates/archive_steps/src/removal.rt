@@ -3,17 +3,17 @@
 ghost use Rattle.std.specs.Prelude.{◌≡◌, ◌==◌, not, IfOk};
 ghost use Rattle.std.specs.List.{list_any};
 ghost use Rattle.record_text.specs.declared.refusal.RefusalKind.TheVariants.{StillNamed};
-ghost use Rattle.archive_view.specs.Looks.{Agrees, CountsFailures, is_stop};
-ghost use Rattle.archive_view.specs.Views.{On};
-ghost use Rattle.archive_looks.specs.Applied.{Plans};
-ghost use Rattle.archive_looks.specs.Checks as checks;
-ghost use Rattle.archive_looks.specs.Exact.{IsExact};
+ghost use Rattle.archive_state.specs.Looks.{Agrees, CountsFailures, is_stop};
+ghost use Rattle.archive_state.specs.Views.{On};
+ghost use Rattle.command_checks.specs.Applied.{Plans};
+ghost use Rattle.command_checks.specs.Checks as checks;
+ghost use Rattle.command_checks.specs.Exact.{IsExact};
 ghost use Rattle.archive_steps.specs.Steps as steps;
 
 use crate::making::removes;
-use archive_state::Changes;
-use archive_view::View;
-use records::{Record, RefusalKind};
+use archive_state::{Changes, View};
+use record_kinds::Record;
+use record_text::RefusalKind;
 use std::alloc::Global;
 
 /// The record of a number is taken out, where no other names it.

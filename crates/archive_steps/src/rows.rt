@@ -1,10 +1,10 @@
 //! What a command of one row changes.
 
 ghost use Rattle.std.specs.Prelude.{IfOk};
-ghost use Rattle.archive_view.specs.Looks.{CountsFailures};
-ghost use Rattle.archive_view.specs.Views.{On};
-ghost use Rattle.archive_looks.specs.Applied.{Plans};
-ghost use Rattle.archive_looks.specs.Exact.{IsExact};
+ghost use Rattle.archive_state.specs.Looks.{CountsFailures};
+ghost use Rattle.archive_state.specs.Views.{On};
+ghost use Rattle.command_checks.specs.Applied.{Plans};
+ghost use Rattle.command_checks.specs.Exact.{IsExact};
 ghost use Rattle.archive_steps.specs.Steps.{row_step};
 
 use crate::entries::{link_mention, new_entry, unlink_mention};
@@ -14,12 +14,11 @@ use crate::persons::{add_name, new_person, set_sex};
 use crate::places::new_place;
 use crate::removal::remove_record;
 use crate::sources::{new_citation, new_repo, new_source};
-use archive_merge::decide_merge::merge;
-use archive_merge::decide_undo::undo;
-use archive_state::Changes;
-use archive_view::View;
+use archive_state::{Changes, View};
 use commands::RowCommand;
-use records::RefusalKind;
+use merging::decide_merge::merge;
+use merging::decide_undo::undo;
+use record_text::RefusalKind;
 use std::alloc::Global;
 
 /// What a command of one row changes.

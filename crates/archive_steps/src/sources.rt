@@ -1,18 +1,19 @@
 //! The commands on repositories, sources and citations.
 
 ghost use Rattle.std.specs.Prelude.{◌≡◌, IfOk, IfErr, false};
-ghost use Rattle.archive_view.specs.Looks.{Agrees, CountsFailures, is_failure, is_stop};
-ghost use Rattle.archive_view.specs.Views.{On};
-ghost use Rattle.archive_looks.specs.Applied.{Plans};
-ghost use Rattle.archive_looks.specs.Exact.{IsExact};
+ghost use Rattle.archive_state.specs.Looks.{Agrees, CountsFailures, is_failure, is_stop};
+ghost use Rattle.archive_state.specs.Views.{On};
+ghost use Rattle.command_checks.specs.Applied.{Plans};
+ghost use Rattle.command_checks.specs.Exact.{IsExact};
 ghost use Rattle.archive_steps.specs.Steps as steps;
 
 use crate::making::{creates, kept_if};
-use archive_looks::{Demand, check_demand, check_optional, maybe_text_in, text_in};
-use archive_state::Changes;
-use archive_view::View;
+use archive_state::{Changes, View};
+use command_checks::{Demand, check_demand, check_optional, maybe_text_in, text_in};
 use commands::Field;
-use records::{Citation, Holding, Quality, Record, RefusalKind, Repo, Source, Text};
+use record_fields::Quality;
+use record_kinds::{Citation, Holding, Record, Repo, Source};
+use record_text::{RefusalKind, Text};
 use std::alloc::{AllocError, Global};
 
 /// A new repository.

@@ -2,19 +2,19 @@
 use Rattle.std.proofs.Common.{◌≡◌, ℕ, List, [], ◌∷◌, Bool, true, false, refl, sym, ◌∙◌, inl, inr, subst}
 use Rattle.std.specs.Prelude.{Option, Some, None}
 use Rattle.std.specs.FinMap.{get}
-use Rattle.record_links.specs.Links.{Link, links}
+use Rattle.archive_state.specs.Links.{Link, links}
 use Rattle.record_shapes.specs.Lists.{EachOf}
 use Rattle.archive_state.specs.Content.{Content, Records}
 use Rattle.archive_state.specs.Slips.{Slip}
 use Rattle.archive_state.specs.Sound.{IsSound, IsSoundSlip, old_records}
-use Rattle.standing_links.specs.Standing.{IsOne, Meets, link_of}
+use Rattle.sound_records.specs.Standing.{IsOne, Meets, link_of}
 use Rattle.sound_records.specs.Parts.{AreWhole, BreaksAt, IsBreach}
 use Rattle.sound_records.specs.declared.part.Breach.{Breach}
 use Rattle.sound_records.specs.declared.part.Part.{Part}
 use Rattle.sound_records.specs.declared.part.Part.TheVariants as part
-use Rattle.sound_slips.specs.Parts.{BreaksSlip}
-use Rattle.sound_slips.specs.declared.part.SlipPart.{SlipPart}
-use Rattle.sound_slips.specs.declared.part.SlipPart.TheVariants as slip_part
+use Rattle.audit.specs.Parts.{BreaksSlip}
+use Rattle.audit.specs.declared.part.SlipPart.{SlipPart}
+use Rattle.audit.specs.declared.part.SlipPart.TheVariants as slip_part
 use Rattle.audit.specs.Faults.{IsFault}
 use Rattle.audit.specs.declared.fault.Fault.{Fault}
 use Rattle.audit.specs.declared.fault.Fault.TheVariants as fault

@@ -6,7 +6,7 @@ use Rattle.std.specs.FinMap.{get, keys}
 use Rattle.archive_state.specs.Content.{Content}
 use Rattle.archive_state.specs.Slips.{Slip}
 use Rattle.archive_state.specs.Sound.{IsSound}
-use Rattle.known_records.specs.Knowing.{HasAll}
+use Rattle.sound_records.specs.Knowing.{HasAll}
 use Rattle.sound_records.specs.Parts.{AreWhole}
 use Rattle.audit.specs.Faults.{IsFault, IsNext, KeepSlips, KeepsSlip, KeepsSlipAt}
 use Rattle.audit.specs.declared.fault.Fault.{Fault}

@@ -6,7 +6,7 @@ use Rattle.archive_state.specs.Content.{Content}
 use Rattle.archive_state.specs.Slips.{Slip}
 use Rattle.archive_state.specs.Sound.{IsPerson, IsSoundSlip}
 use Rattle.sound_records.specs.Parts.{IsBreach}
-use Rattle.sound_slips.specs.Parts.{BreaksSlip}
+use Rattle.audit.specs.Parts.{BreaksSlip}
 use Rattle.audit.specs.declared.fault.Fault.{Fault}
 use Rattle.audit.specs.declared.fault.Fault.TheVariants as fault
 

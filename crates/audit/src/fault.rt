@@ -1,7 +1,7 @@
 //! What is found where an archive is not sound.
 
+use crate::part::SlipPart;
 use sound_records::Breach;
-use sound_slips::SlipPart;
 
 /// What breaks the rule of a sound archive.
 #[derive(Clone, Copy, Debug, PartialEq, Eq)]

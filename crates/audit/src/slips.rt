@@ -6,9 +6,9 @@ ghost use Rattle.archive_state.specs.Sound.{IsPerson};
 ghost use Rattle.audit.specs.Faults as faults;
 
 use crate::fault::Fault;
+use crate::judging::broken_slip;
 use archive_state::{Slip, State};
 use record_kinds::Record;
-use sound_slips::broken_slip;
 use std::alloc::{AllocError, Global};
 
 /// What the first slip breaks that breaks a part of the rule.

@@ -1,9 +1,8 @@
 //! What is printed of a fault.
 
 use crate::fault::Fault;
-use sound_records::{Breach, Part};
-use sound_slips::SlipPart;
-use standing_links::{Demand, Unmet};
+use crate::part::SlipPart;
+use sound_records::{Breach, Demand, Part, Unmet};
 use std::fmt;
 
 impl fmt::Display for Fault {

@@ -3,3 +3,5 @@ pub mod Characters
 pub mod Ascii
 pub mod Pages
 pub mod Counting
+pub mod FirstLines
+pub mod Staying

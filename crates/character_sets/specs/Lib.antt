@@ -5,3 +5,7 @@ pub mod Sets
 pub mod Cuts
 pub mod Again
 pub mod Counts
+pub mod Lines
+pub mod Heads
+pub mod Moves
+pub mod Kept

@@ -18,8 +18,8 @@ use Rattle.std.specs.Prelude.{
 }
 use Rattle.std.specs.Str.{bytes_eq}
 use Rattle.std.specs.Str.Parse.{digits_value, without_leading_plus}
-use Rattle.search_keys.specs.Folding.{folded_text}
-use Rattle.search_keys.specs.Words.{words_of}
+use Rattle.searching.specs.Folding.{folded_text}
+use Rattle.searching.specs.Words.{words_of}
 use Rattle.clap.specs.Words.{Text}
 use Rattle.clap.specs.ValueTests.{is_unsigned_in}
 use Rattle.command_line.specs.declared.tasks.RecordKind.{RecordKind}

@@ -26,7 +26,7 @@ use crate::words::{
     given_number, given_word, number_of, numbers_of, records_named, set_named, word_of, words_of,
 };
 use clap::ArgMatches;
-use search_keys::SearchWords;
+use searching::SearchWords;
 use std::alloc::{AllocError, Global};
 
 /// `convert`: a file in UTF-8. Refused where the character set is none.
@@ -109,7 +109,7 @@ fn search_of(alloc: Global, words: &[&str]) -> Result<SearchWords, Refused>
     Ok(search)
 }
 
-/// Puts what is searched for of a word behind the rest, and answers whether it has some.
+/// Puts what is searched for of a word after the rest, and answers whether it has some.
 fn added(alloc: Global, search: &mut SearchWords, word: &str) -> Result<bool, AllocError>
     ensures words { OnOk result (search.new ≡ search.old ++ search_words word.now) }
     ensures some { IfOk result (λ some. some ≡ is_searched word.now) }

@@ -27,7 +27,7 @@ ghost use Rattle.command_line.specs.Examples.{
 };
 ghost use Rattle.command_line.specs.declared.tasks.SheetKind.TheVariants.{Pedigree};
 
-/// Each command is taken where it stands alone behind the program's name, whatever that is.
+/// Each command is taken where it stands alone after the program's name, whatever that is.
 pub fn each_command_is_taken()
     ensures norm { (name : Text) → IsTaken (name ∷ codes "norm" ∷ []) }
     ensures check { (name : Text) → IsTaken (name ∷ codes "check" ∷ []) }

@@ -1,6 +1,6 @@
 //! What a command line may ask for, and why it may ask for nothing.
 
-use search_keys::SearchWords;
+use searching::SearchWords;
 use std::alloc::AllocError;
 
 /// What a command line asks for. Days are counted from 1970-01-01, day 0.

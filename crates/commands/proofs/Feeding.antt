@@ -6,7 +6,7 @@ use Rattle.sha2.specs.declared.Sha256.{Sha256}
 use Rattle.gedcom_line.specs.Spelling.{spelling}
 use Rattle.gedcom_tree.specs.Text.{line_text, trailer}
 
--- what the hasher held at first, it holds with a front of the text behind it, and rest is what follows
+-- what the hasher held at first, it holds with a front of the text after it, and rest is what follows
 pub record Feeds (old new : Sha256) (rest whole : List ℕ) : Type 0 where
   pub front : List ℕ
   pub parts : front ++ rest ≡ whole
@@ -31,7 +31,7 @@ pub trailer_is : line_text trailer ≡ 48 ∷ 32 ∷ 84 ∷ 82 ∷ 76 ∷ 82 ∷
 unfolding spelling
 trailer_is = rw (decimal_digit 0 (omega arith)) refl
 
--- the trailer is written behind all others
+-- the trailer is written after all others
 pub written_last : (out rest whole : List ℕ) → out ++ rest ≡ whole → rest ≡ line_text trailer ++ []
     → out ++ 48 ∷ 32 ∷ 84 ∷ 82 ∷ 76 ∷ 82 ∷ 10 ∷ [] ≡ whole
 written_last out rest whole e r =

@@ -119,7 +119,7 @@ many_mentions fields h =
     let words : List (List ℕ) = map (λ f. f.now) fields in
     option-many words (pairs words) refl (rw (length-map fields (λ f. f.now)) h)
 
--- ---- mentions behind others
+-- ---- mentions after others
 abbrev behind : List GivenMention → Option (List GivenMention) → Result (List GivenMention) RefusalKind
 behind have o = and_then (ok_or FieldCount (option_map (λ ms. have ++ ms) o)) counted
 
@@ -133,7 +133,7 @@ then-read : (r : Result (List GivenMention) RefusalKind) (p q : Result (List Giv
 then-read (Ok ms) p q e h = h ∙ e
 then-read (Err k) p q e h = λ w. h w ∙ e
 
--- behind the first two fields
+-- after the first two fields
 pub two_more : (have all : List GivenMention) (fields : List (Bor (List ℕ))) (else : Bor (List ℕ))
     (r : Result (List GivenMention) RefusalKind)
     → 2 ≤ length fields → all ≡ have
@@ -152,7 +152,7 @@ two_more have all (role ∷ name ∷ more) else r l e h =
     ∙ ap (λ (l : List GivenMention). behind l (pairs (map (λ f. f.now) more))) e ∙ one-more have m
     (pairs (map (λ f. f.now) more))) h
 
--- behind none: all of them
+-- after none: all of them
 behind-none : (o : Option (List GivenMention)) → behind [] o ≡ and_then (ok_or FieldCount o) counted
 behind-none None = refl
 behind-none (Some ms) = refl

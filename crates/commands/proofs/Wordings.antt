@@ -87,7 +87,7 @@ unfolding is_blank fields_text
 import-row tail = refl
 
 -- ---- what bytes are read as
--- the row that the bytes begin with, and what stands behind it
+-- the row that the bytes begin with, and what stands after it
 abbrev first-row : Wording → List (List ℕ)
 first-row (Row fields) = fields
 first-row (Batch source rows) = codes "entries" ∷ decimal source ∷ []
@@ -111,7 +111,7 @@ some-row : (row : List (List ℕ)) → BeginsWithVerb row → row ≢ []
 some-row [] h = absurd h
 some-row (word ∷ fields) h = some-cons word fields
 
--- the bytes are the first row and what stands behind it
+-- the bytes are the first row and what stands after it
 begins : (w : Wording) → IsSoundWording w → row_text default_writer (first-row w) ++ behind w ≡ written w
 begins (Row fields) h = append-nil (row_text default_writer fields)
 begins (Batch source rows) h = head-row source (flat_map (row_text default_writer) rows) h.0

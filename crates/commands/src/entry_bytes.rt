@@ -58,7 +58,7 @@ fn entry_row_bytes(alloc: Global, entry: &EntryRow) -> Result<Vec<u8>, AllocErro
     row_bytes(alloc, words.as_slice())
 }
 
-/// The words, and behind them the fields of an entry, of which item and place are given as digits.
+/// The words, and after them the fields of an entry, of which item and place are given as digits.
 fn with_entry<'a>(
     mut words: Vec<&'a [u8]>,
     entry: &'a EntryRow,
@@ -78,7 +78,7 @@ fn with_entry<'a>(
     with_mentions(words, entry.mentions.as_slice())
 }
 
-/// The words, and behind them role and name of each mention.
+/// The words, and after them role and name of each mention.
 fn with_mentions<'a>(
     mut words: Vec<&'a [u8]>,
     mentions: &'a [GivenMention],

@@ -37,7 +37,7 @@ impl EntryRow {
     }
 }
 
-/// The register entry of the fields behind its source. Refused are first too few or too many fields, and a role without
+/// The register entry of the fields after its source. Refused are first too few or too many fields, and a role without
 /// a name (`FieldCount`), and then a field that is not of its type (`BadRow`). `OutOfMemory` may come in place of any
 /// answer.
 pub(crate) fn entry_of_fields(alloc: Global, fields: &[&str]) -> Result<EntryRow, RefusalKind>
@@ -121,7 +121,7 @@ fn mentions_in(alloc: Global, fields: &[&str]) -> Result<GivenMentions, RefusalK
     with_mentions(alloc, Vec::new(alloc), fields)
 }
 
-/// The mentions, and behind them those of the fields: 1 to 100.
+/// The mentions, and after them those of the fields: 1 to 100.
 fn with_mentions(
     alloc: Global,
     mut mentions: Vec<GivenMention>,

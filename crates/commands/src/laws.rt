@@ -49,7 +49,7 @@ pub fn the_fields_of_an_entry_are_read_as_it()
     ensures { (entry : EntryRow) → IsSoundEntry entry → ReadsEntry (entry_fields entry) (Ok entry) }
 {}
 
-/// The bytes of a command of one row, whatever stands behind them, are read by the default reader of `csv` as its row.
+/// The bytes of a command of one row, whatever stands after them, are read by the default reader of `csv` as its row.
 pub fn the_bytes_of_a_command_are_its_row()
     ensures { (row : RowCommand) (rest : List ℕ)
         → next_record default_config state.StartRecord [] [] (bytes_of (command.Row row) ++ rest)

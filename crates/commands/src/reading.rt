@@ -17,7 +17,7 @@ use record_text::RefusalKind;
 use std::alloc::{AllocError, Global};
 
 impl RowCommand {
-    /// The command of a row: its verb, and the fields behind it. Refused are, in this order, an unknown verb
+    /// The command of a row: its verb, and the fields after it. Refused are, in this order, an unknown verb
     /// (`UnknownVerb`), too few or too many fields (`FieldCount`), and a field that is not of its type (`BadRow`).
     /// `OutOfMemory` may come in place of any answer.
     pub fn of_row(alloc: Global, verb: &str, fields: &[&str]) -> Result<RowCommand, RefusalKind>

@@ -30,8 +30,8 @@ use Rattle.std.proofs.Common.{
 use Rattle.std.proofs.lemmas.Bool.{ltb-false, ltb-true}
 use Rattle.std.proofs.lemmas.List.{append-nil, length-append, take-append-le}
 use Rattle.character_sets.specs.declared.set.CharacterSet.{CharacterSet}
-use Rattle.unit_lines.specs.Lines.{Line, lines}
-use Rattle.unit_lines.proofs.FirstLines.{none}
+use Rattle.character_sets.specs.Lines.{Line, lines}
+use Rattle.character_sets.proofs.FirstLines.{none}
 use Rattle.conversion_reports.specs.declared.kinds.Kind.{Kind}
 use Rattle.conversion_reports.specs.Lines.{
   Leads,

@@ -13,7 +13,7 @@ use Rattle.std.proofs.Common.{
   ℕ,
 }
 use Rattle.character_sets.specs.declared.set.CharacterSet.{CharacterSet}
-use Rattle.unit_lines.specs.Lines.{lines}
+use Rattle.character_sets.specs.Lines.{lines}
 use Rattle.file_conversion.specs.declared.charsets.NamedSet.{NamedSet}
 use Rattle.file_conversion.specs.declared.deciding.Reason.{Reason}
 use Rattle.file_conversion.specs.declared.units.LeftOut.{LeftOut}

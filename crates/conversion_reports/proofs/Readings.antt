@@ -27,10 +27,10 @@ use Rattle.std.proofs.Common.{
 }
 use Rattle.character_sets.specs.declared.set.CharacterSet.{CharacterSet}
 use Rattle.file_conversion.specs.Conversion.{next_number}
-use Rattle.unit_lines.specs.Lines.{Line, lines}
-use Rattle.unit_lines.specs.Moves.{left_over, moved}
+use Rattle.character_sets.specs.Lines.{Line, lines}
+use Rattle.character_sets.specs.Moves.{left_over, moved}
 use Rattle.std.specs.List.{filter, flat_map}
-use Rattle.unit_lines.proofs.FirstLines.{empty, none}
+use Rattle.character_sets.proofs.FirstLines.{empty, none}
 use Rattle.conversion_reports.specs.Lines.{LineRead, first_body, has_others, joins_at, lines_read, shown_number}
 use Rattle.conversion_reports.specs.Report.{left_if, read_line, read_lines, read_text, text_if}
 

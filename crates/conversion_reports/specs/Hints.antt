@@ -18,7 +18,7 @@ use Rattle.std.specs.List.{list_all, prefix_len}
 use Rattle.character_sets.specs.declared.set.CharacterSet.{CharacterSet}
 use Rattle.character_sets.specs.declared.set.CharacterSet.TheVariants.{Utf8, CodePage437, CodePage850}
 use Rattle.character_sets.specs.CodePages.{is_alike}
-use Rattle.unit_lines.specs.Lines.{Line, lines}
+use Rattle.character_sets.specs.Lines.{Line, lines}
 use Rattle.file_conversion.specs.declared.charsets.NamedSet.{NamedSet}
 use Rattle.file_conversion.specs.declared.fault.ConversionError.{ConversionError}
 use Rattle.file_conversion.specs.declared.fault.ConversionError.TheVariants.{UnknownSet}

@@ -29,8 +29,8 @@ use Rattle.character_sets.specs.declared.set.CharacterSet.{CharacterSet}
 use Rattle.character_sets.specs.declared.set.CharacterSet.TheVariants.{Utf8, Ansel}
 use Rattle.character_sets.specs.Counts.{marked_others, one_if, strays}
 use Rattle.character_sets.specs.Sets.{characters}
-use Rattle.unit_lines.specs.Lines.{Line, is_blank}
-use Rattle.unit_lines.specs.Moves.{left_over, moved}
+use Rattle.character_sets.specs.Lines.{Line, is_blank}
+use Rattle.character_sets.specs.Moves.{left_over, moved}
 use Rattle.file_conversion.specs.Conversion.{is_ascii, next_number}
 use Rattle.conversion_reports.specs.declared.kinds.Kind.{Kind}
 use Rattle.conversion_reports.specs.declared.kinds.Kind.TheVariants.{Other, Joined, Stray, Replaced, Marked}

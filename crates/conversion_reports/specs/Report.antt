@@ -29,7 +29,7 @@ use Rattle.std.specs.List.{filter, flat_map}
 use Rattle.character_sets.specs.declared.set.CharacterSet.{CharacterSet}
 use Rattle.character_sets.specs.declared.set.CharacterSet.TheVariants as set
 use Rattle.character_sets.specs.Counts.{one_if}
-use Rattle.unit_lines.specs.Lines.{Line, lines}
+use Rattle.character_sets.specs.Lines.{Line, lines}
 use Rattle.file_conversion.specs.declared.charsets.NamedSet.{NamedSet}
 use Rattle.file_conversion.specs.declared.deciding.Reason.{Reason}
 use Rattle.file_conversion.specs.declared.deciding.Reason.TheVariants.{Mark, Nul, Asked, Ascii, Whole, Named}

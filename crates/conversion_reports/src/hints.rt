@@ -3,7 +3,7 @@
 ghost use Rattle.std.specs.Prelude.{◌≡◌, ◌++◌, ◌∷◌, IfOk, OnOk, length, ◌≤◌};
 ghost use Rattle.std.specs.List.{prefix_len};
 ghost use Rattle.character_sets.specs.CodePages.{is_alike};
-ghost use Rattle.unit_lines.specs.Lines.{lines};
+ghost use Rattle.character_sets.specs.Lines.{lines};
 ghost use Rattle.conversion_reports.specs.Hints.{
   both_readings,
   hint_text,
@@ -17,10 +17,9 @@ ghost use Rattle.conversion_reports.specs.Hints.{
 
 use crate::kinds::line_text;
 use crate::pushes::{push, push_shown};
-use character_sets::{CharacterSet, is_read_alike};
+use character_sets::{CharacterSet, first_line, is_read_alike};
 use file_conversion::{NamedSet, char_lines, file_units, named_by};
 use std::alloc::{AllocError, Global};
-use unit_lines::first_line;
 
 /// The hint of a file whose set is not known: one or two lines that begin with two spaces.
 #[tactic(auto, unfolding(crate::specs::Hints::hint_text))]

@@ -1,17 +1,16 @@
 //! The lines of a file as they are written.
 
 ghost use Rattle.std.specs.Prelude.{◌≡◌, ◌+◌, ◌≤◌, ◌<◌, ◌∷◌, IfOk, length};
-ghost use Rattle.unit_lines.specs.Lines.{lines};
+ghost use Rattle.character_sets.specs.Lines.{lines};
 ghost use Rattle.conversion_reports.specs.Lines.{
   joins_at as joins_at_of,
   lines_read,
   shown_number as shown_number_of,
 };
 
-use character_sets::CharacterSet;
+use character_sets::{CharacterSet, Moved, first_line, is_blank, moved_line};
 use file_conversion::next_number;
 use std::alloc::{AllocError, Global};
-use unit_lines::{Moved, first_line, is_blank, moved_line};
 
 /// The first line of what is left of a file, in units of its set, and what comes after it.
 #[derive(Drop)]

@@ -1,7 +1,7 @@
 //! How often a kind is in the lines of a file, and which lines have it first.
 
 ghost use Rattle.std.specs.Prelude.{◌≡◌, ◌+◌, ◌≤◌, ◌<◌, [], IfOk, List, OnOk, length, min, ℕ};
-ghost use Rattle.unit_lines.specs.Lines.{lines};
+ghost use Rattle.character_sets.specs.Lines.{lines};
 ghost use Rattle.conversion_reports.specs.Lines.{
   Leads,
   count as count_of,

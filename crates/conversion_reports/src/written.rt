@@ -1,7 +1,7 @@
 //! What is reported of the lines that are written.
 
 ghost use Rattle.std.specs.Prelude.{◌≡◌, ◌++◌, ◌≤◌, ◌<◌, [], IfOk, OnOk};
-ghost use Rattle.unit_lines.specs.Lines.{lines};
+ghost use Rattle.character_sets.specs.Lines.{lines};
 ghost use Rattle.conversion_reports.specs.Lines.{has_others as has_others_of, lines_read};
 ghost use Rattle.conversion_reports.specs.Report.{
   changes,

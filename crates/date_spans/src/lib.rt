@@ -5,7 +5,7 @@
 //! day 0.
 //!
 //! Callers may rely on: `between_days` answers what its definition says for any two days, also where the first is
-//! behind the second.
+//! after the second.
 #![tactic(auto)]
 
 mod between;
@@ -14,6 +14,5 @@ mod meeting;
 mod record_spans;
 
 pub use between::between_days;
-pub use gedcom_date::Span;
 pub use meeting::meets;
 pub use record_spans::{span_of, spans};

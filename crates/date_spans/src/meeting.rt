@@ -6,7 +6,7 @@ ghost use Rattle.date_spans.specs.Meeting.{HasEnd, Meets};
 use gedcom_date::Span;
 
 /// Whether a span has an end and meets the days from the first to the last. It is judged as it is said also where the
-/// first is behind the last. Takes no memory.
+/// first is after the last. Takes no memory.
 pub fn meets(span: Span, first: i32, last: i32) -> bool
     ensures { IsTrue result ↔ Meets span first last }
 {
@@ -20,7 +20,7 @@ fn has_end(span: Span) -> bool
     span.lo.is_some() || span.hi.is_some()
 }
 
-/// Whether no first day is behind the last one.
+/// Whether no first day is after the last one.
 fn begins_by(lo: Option<i32>, last: i32) -> bool
     ensures { IsTrue result ↔ IfSome lo (λ lo. lo ≤ℤ last) }
 {

@@ -3,7 +3,7 @@
 //! It uses nothing but the standard library.
 //!
 //! Callers may rely on: an error of a reader or a writer is blamed on it only where its count of failures
-//! has risen in that call; a read takes all bytes up to a limit, and none behind it; after a write that
+//! has risen in that call; a read takes all bytes up to a limit, and none after it; after a write that
 //! failed the writer has got a beginning of the bytes.
 #![tactic(auto)]
 

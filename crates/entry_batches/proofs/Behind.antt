@@ -1,4 +1,4 @@
--- What an archive is behind rows that have made entries: the look at one row is the command of one entry there.
+-- What an archive is after rows that have made entries: the look at one row is the command of one entry there.
 use Rattle.std.proofs.Common.{
   ◌≡◌,
   ℕ,
@@ -48,8 +48,8 @@ use Rattle.archive_state.specs.Content.{Content, Records}
 use Rattle.archive_state.specs.Entries.{HasKey, IsEntryAt}
 use Rattle.archive_state.specs.declared.changes.Numbered.{Numbered}
 use Rattle.commands.specs.Rows.{and_then}
-use Rattle.archive_looks.proofs.Likes.{has_key, key_free, key_of, none_there}
-use Rattle.archive_looks.specs.Checks.{
+use Rattle.command_checks.proofs.Likes.{has_key, key_free, key_of, none_there}
+use Rattle.command_checks.specs.Checks.{
   demanded_at,
   demanded_in,
   is_place_with,
@@ -60,8 +60,8 @@ use Rattle.archive_looks.specs.Checks.{
   said_place_at,
   says_something,
 }
-use Rattle.archive_looks.specs.Entries.{is_like, key_is_free}
-use Rattle.archive_looks.specs.declared.kinds.Demand.TheVariants as demand
+use Rattle.command_checks.specs.Entries.{is_like, key_is_free}
+use Rattle.command_checks.specs.declared.kinds.Demand.TheVariants as demand
 use Rattle.entry_batches.specs.Batches.{is_drawn, is_like_row, key_is_new, place_behind, with_made}
 use Rattle.entry_batches.proofs.Keyed.{any_behind}
 use Rattle.list_laws.proofs.Lists.{more_behind}
@@ -244,7 +244,7 @@ module _ (m : Records) (n : ℕ) (e : model.Entry) (free : get m n ≡ None) whe
             (λ j there. none_there source k page item m tt (free_or_not m false t) j (there_before q j there))
             ∙ sym (free_or_not m false t)
 
--- ---- behind rows that made these entries
+-- ---- after rows that made these entries
 pub record IsBehind (c : Content) (source : ℕ) (made : List Numbered) : Type 0 where
   pub later : (n : ℕ) → c.next + length made ≤ n → get (with_puts c.records made) n ≡ None
   pub places : (n : ℕ) → said_place_at (with_made c made) n ≡ place_behind c (length made) n

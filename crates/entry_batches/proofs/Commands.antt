@@ -39,7 +39,7 @@ use Rattle.archive_state.specs.declared.changes.Numbered.{Numbered}
 use Rattle.commands.specs.Rows.{and_then}
 use Rattle.commands.specs.declared.entry_row.EntryRow.{EntryRow}
 use Rattle.commands.specs.declared.row_command.RowCommand.TheVariants as row_command
-use Rattle.archive_looks.specs.Checks.{
+use Rattle.command_checks.specs.Checks.{
   date_in,
   demanded_at,
   demanded_in,
@@ -49,11 +49,11 @@ use Rattle.archive_looks.specs.Checks.{
   said_place_at,
   text_in,
 }
-use Rattle.archive_looks.specs.Entries.{key_is_free, mentions_in, texts_fit}
-use Rattle.archive_looks.specs.declared.kinds.Demand.TheVariants as demand
+use Rattle.command_checks.specs.Entries.{key_is_free, mentions_in, texts_fit}
+use Rattle.command_checks.specs.declared.kinds.Demand.TheVariants as demand
 use Rattle.archive_steps.proofs.Following.{Follows, row_follows}
-use Rattle.archive_looks.specs.Exact.{IsExact}
-use Rattle.archive_looks.specs.Numbers.{Draws, UsesNoneAgain}
+use Rattle.command_checks.specs.Exact.{IsExact}
+use Rattle.command_checks.specs.Numbers.{Draws, UsesNoneAgain}
 use Rattle.archive_steps.specs.Steps.{creates, entry_of, new_entry}
 use Rattle.archive_steps.specs.Words.{IsUtf8Entry}
 use Rattle.entry_batches.specs.Batches.{

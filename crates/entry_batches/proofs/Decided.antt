@@ -1,4 +1,4 @@
--- What a batch changes is no more than it has to be, behind the looks over a view.
+-- What a batch changes is no more than it has to be, after the looks over a view.
 use Rattle.std.proofs.Common.{◌≡◌, ℕ, ◌+◌, List, [], length, Bool, true, false, refl, ap, ◌∙◌}
 use Rattle.std.specs.Prelude.{None, Result, Ok, Err, nat_le, if◌then◌else◌}
 use Rattle.record_text.specs.declared.refusal.RefusalKind.{RefusalKind}
@@ -6,12 +6,12 @@ use Rattle.record_text.specs.declared.refusal.RefusalKind.TheVariants.{Full}
 use Rattle.archive_state.specs.Changes.{Changes}
 use Rattle.archive_state.specs.Content.{Content}
 use Rattle.archive_state.specs.declared.changes.Numbered.{Numbered}
-use Rattle.archive_view.specs.Looks.{OnView}
+use Rattle.archive_state.specs.Looks.{OnView}
 use Rattle.commands.specs.Rows.{and_then}
 use Rattle.commands.specs.declared.entry_row.EntryRow.{EntryRow}
-use Rattle.archive_looks.specs.Checks.{demanded_at}
-use Rattle.archive_looks.specs.declared.kinds.Demand.TheVariants as demand
-use Rattle.archive_looks.specs.Exact.{IsExact}
+use Rattle.command_checks.specs.Checks.{demanded_at}
+use Rattle.command_checks.specs.declared.kinds.Demand.TheVariants as demand
+use Rattle.command_checks.specs.Exact.{IsExact}
 use Rattle.entry_batches.specs.Batches.{first_number, with_rows}
 use Rattle.entry_batches.proofs.Commands.{made_is_exact}
 use Rattle.entry_batches.proofs.Rows.{view_then}

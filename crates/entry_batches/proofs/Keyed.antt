@@ -36,7 +36,7 @@ use Rattle.record_kinds.specs.Model as model
 use Rattle.record_kinds.specs.declared.record.Record.{Record}
 use Rattle.record_kinds.specs.declared.record.Record.TheVariants as kind
 use Rattle.archive_state.specs.declared.changes.Numbered.{Numbered}
-use Rattle.archive_looks.specs.Checks.{need}
+use Rattle.command_checks.specs.Checks.{need}
 use Rattle.entry_batches.specs.Batches.{is_like_row, key_is_new}
 use Rattle.entry_batches.specs.Keys.{IsKeyed, has_words, key_words}
 use Rattle.list_laws.proofs.Bytes.{parted}

@@ -1,4 +1,4 @@
--- The place of a row, and the number behind rows, as code looks at them.
+-- The place of a row, and the number after rows, as code looks at them.
 use Rattle.std.proofs.Common.{◌≡◌, ℕ, ◌+◌, ◌-◌, ◌≤◌, true, false, ◌&&◌, refl, ap, nat_le, arith}
 use Rattle.std.specs.Prelude.{Option, Some, None, Result, Ok, Err, if◌then◌else◌, nat_lt}
 use Rattle.std.specs.Option.{option_map_or}
@@ -7,7 +7,7 @@ use Rattle.record_text.specs.declared.refusal.RefusalKind.{RefusalKind}
 use Rattle.record_text.specs.declared.refusal.RefusalKind.TheVariants.{Full, WrongKind}
 use Rattle.archive_state.specs.Content.{Content}
 use Rattle.commands.specs.Rows.{and_then}
-use Rattle.archive_looks.specs.Checks.{each, passed, said_place_at}
+use Rattle.command_checks.specs.Checks.{each, passed, said_place_at}
 use Rattle.entry_batches.specs.Batches.{is_drawn, is_left, number_behind, place_behind}
 
 -- ---- the place of a row
@@ -27,13 +27,13 @@ drawn_by_none c count (Some n) e =
 pub drawn_is : (next count n : ℕ) → (nat_le next n && nat_lt (n - next) count) ≡ is_drawn next count n
 drawn_is next count n = grind (arith, nat_tests)
 
--- ---- the number behind rows
+-- ---- the number after rows
 pub left_is : (next count : ℕ)
     → (nat_le next 4_294_967_295 && (nat_le count (4_294_967_295 - next) && nat_le count 4_294_967_293))
     ≡ is_left next count
 left_is next count = grind (arith, nat_tests)
 
--- behind few rows alone one is left
+-- after few rows alone one is left
 pub left_behind_few : (next count n : ℕ) → number_behind next count ≡ Ok n → count ≤ 4_294_967_293
 left_behind_few next count n e =
     elim (is_left next count) as (λ b. is_left next count ≡ b → ◌≡◌ {A = Result ℕ RefusalKind}

@@ -6,7 +6,7 @@ use Rattle.record_text.specs.declared.refusal.RefusalKind.{RefusalKind}
 use Rattle.record_kinds.specs.Model as model
 use Rattle.archive_state.specs.Content.{Content}
 use Rattle.archive_state.specs.declared.changes.Numbered.{Numbered}
-use Rattle.archive_view.specs.Looks.{Agrees, CountsFailures, CountsStops, OnView, is_failure, is_stop}
+use Rattle.archive_state.specs.Looks.{Agrees, CountsFailures, CountsStops, OnView, is_failure, is_stop}
 use Rattle.commands.specs.Rows.{and_then}
 use Rattle.commands.specs.declared.entry_row.EntryRow.{EntryRow}
 use Rattle.entry_batches.specs.Batches.{row_entry, with_entry, with_row, with_rows}

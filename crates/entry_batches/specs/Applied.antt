@@ -3,8 +3,8 @@ use Rattle.std.specs.Prelude.{◌≡◌, None, Result, IfOk}
 use Rattle.record_text.specs.declared.refusal.Refusal.{Refusal}
 use Rattle.archive_state.specs.Changes.{Changes}
 use Rattle.archive_state.specs.Content.{Content}
-use Rattle.archive_view.specs.Looks.{Agrees, is_stop}
-use Rattle.archive_looks.specs.Applied.{leaves}
+use Rattle.archive_state.specs.Looks.{Agrees, is_stop}
+use Rattle.command_checks.specs.Applied.{leaves}
 use Rattle.entry_batches.specs.Placed.{Step}
 
 -- what it leaves is right, or it is a stop; and no receipt is kept yet

@@ -1,5 +1,5 @@
 -- What a batch of register entries of one source makes of an archive, or its refusal with the place of the row: the
--- source is looked at first, then each row as the command of one entry would be behind the rows before it. Rules of our
+-- source is looked at first, then each row as the command of one entry would be after the rows before it. Rules of our
 -- own.
 use Rattle.std.specs.Prelude.{
   ℕ,
@@ -37,13 +37,13 @@ use Rattle.archive_state.specs.Content.{Content}
 use Rattle.archive_state.specs.declared.changes.Numbered.{Numbered}
 use Rattle.commands.specs.Rows.{and_then}
 use Rattle.commands.specs.declared.entry_row.EntryRow.{EntryRow}
-use Rattle.archive_looks.specs.Checks.{demanded_at, each, need, passed, said_place_at}
-use Rattle.archive_looks.specs.Entries.{key_is_free, texts_fit}
-use Rattle.archive_looks.specs.declared.kinds.Demand.TheVariants as demand
+use Rattle.command_checks.specs.Checks.{demanded_at, each, need, passed, said_place_at}
+use Rattle.command_checks.specs.Entries.{key_is_free, texts_fit}
+use Rattle.command_checks.specs.declared.kinds.Demand.TheVariants as demand
 use Rattle.archive_steps.specs.Steps.{entry_of}
 use Rattle.entry_batches.specs.Placed.{Step, onward, placed}
 
--- ---- one row, behind those that made these entries
+-- ---- one row, after those that made these entries
 -- a number that one of so many rows has got
 abbrev pub is_drawn : ℕ → ℕ → ℕ → Bool
 is_drawn next count n = nat_le next n && nat_lt n (next + count)
@@ -63,7 +63,7 @@ is_like_row e _ = false
 abbrev pub key_is_new : List Numbered → model.Entry → Result (Unit {0}) RefusalKind
 key_is_new made e = need (not (list_any (λ (p : Numbered). is_like_row e p.«record») made)) DuplicateEntry
 
--- behind so many rows a number is left. The second half says nothing of a sound archive, where the next number is above
+-- after so many rows a number is left. The second half says nothing of a sound archive, where the next number is above
 -- that of a source, and so 2 at least
 abbrev pub is_left : ℕ → ℕ → Bool
 is_left next count = nat_le (next + count) 4_294_967_295 && nat_le count 4_294_967_293
@@ -82,7 +82,7 @@ row_entry c source made row =
     Ok e)))))
 
 -- ---- all rows
--- what was made with one entry more, at the number behind
+-- what was made with one entry more, at the number after
 abbrev pub with_entry : ℕ → List Numbered → model.Entry → Result (List Numbered) RefusalKind
 with_entry next made e = and_then (number_behind next (length made))
     (λ n. Ok (made ++ (record { number = n; «record» = kind.Entry e } ∷ [])))

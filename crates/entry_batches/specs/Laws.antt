@@ -4,8 +4,8 @@ use Rattle.record_text.specs.declared.refusal.Refusal.{Refusal}
 use Rattle.receipts.specs.declared.answer.Answer.{Answer}
 use Rattle.archive_state.specs.Content.{Content}
 use Rattle.commands.specs.declared.entry_row.EntryRow.{EntryRow}
-use Rattle.archive_looks.specs.Checks.{demanded_at}
-use Rattle.archive_looks.specs.declared.kinds.Demand.TheVariants as demand
+use Rattle.command_checks.specs.Checks.{demanded_at}
+use Rattle.command_checks.specs.declared.kinds.Demand.TheVariants as demand
 use Rattle.archive_steps.specs.Steps.{new_entry}
 use Rattle.entry_batches.specs.Batches.{first_number}
 use Rattle.entry_batches.specs.Placed.{Step, onward, placed}
@@ -17,7 +17,7 @@ one_by_one source place c (row ∷ rows) =
     onward (placed (Some place) (new_entry c source row))
     (λ (done : Content × Answer). one_by_one source (place + 1) done.0 rows)
 
--- the same behind a look at the source, with the answer of a batch
+-- the same after a look at the source, with the answer of a batch
 abbrev pub all_commands : Content → ℕ → List EntryRow → Step
 all_commands c source rows =
     onward (placed None (demanded_at c demand.Source source)) (λ _.

@@ -5,7 +5,7 @@ ghost use Rattle.std.specs.BTreeSet.{contains_text};
 ghost use Rattle.std.specs.Str.{bytes_eq};
 ghost use Rattle.entry_batches.specs.Keys as entry_keys;
 
-use records::Entry;
+use record_kinds::Entry;
 use std::alloc::{AllocError, Global};
 use std::collections::BTreeSet;
 

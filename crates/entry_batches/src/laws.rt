@@ -4,7 +4,7 @@ ghost use Rattle.std.specs.Prelude.{◌≡◌, ℕ, List, Ok};
 ghost use Rattle.receipts.specs.declared.answer.Answer.{Answer};
 ghost use Rattle.archive_state.specs.Content.{Content};
 ghost use Rattle.archive_state.specs.Sound.{IsSound};
-ghost use Rattle.archive_looks.specs.Numbers.{Draws, UsesNoneAgain};
+ghost use Rattle.command_checks.specs.Numbers.{Draws, UsesNoneAgain};
 ghost use Rattle.commands.specs.declared.entry_row.EntryRow.{EntryRow};
 ghost use Rattle.entry_batches.specs.Batches.{batch_step};
 ghost use Rattle.entry_batches.specs.Laws.{all_commands};

@@ -1,7 +1,7 @@
 //! A batch of register entries of one source: what it looks at over a view, in which order it is refused, and which
 //! entries it makes.
 //!
-//! It uses `archive_steps` and `archive_looks` for the entry of a row and its checks, `archive_view` and
+//! It uses `archive_steps` and `command_checks` for the entry of a row and its checks, `archive_state` and
 //! `archive_state` for the view of an archive and for what changes, and `commands` for the rows.
 //!
 //! Callers may rely on: `decide_entries` over any view answers the changes that, made, are the step of the definitions,

@@ -1,14 +1,16 @@
 //! The entries that the rows of a batch have made so far.
 
 ghost use Rattle.std.specs.Prelude.{◌≡◌, ◌+◌, ◌++◌, ◌∷◌, ◌≤◌, [], IfErr, IfOk, None, Ok, false, length};
-ghost use Rattle.archive_view.specs.Looks.{Agrees, is_failure, is_stop};
+ghost use Rattle.archive_state.specs.Looks.{Agrees, is_failure, is_stop};
 ghost use Rattle.record_kinds.specs.declared.record.Record.TheVariants as kind;
 ghost use Rattle.commands.specs.Rows.{and_then};
 ghost use Rattle.entry_batches.specs.Batches as batches;
 
 use crate::keys::{add_key, key_words};
-use archive_state::{Answer, Changes, Numbered};
-use records::{Entry, Record, RefusalKind};
+use archive_state::{Changes, Numbered};
+use receipts::Answer;
+use record_kinds::{Entry, Record};
+use record_text::RefusalKind;
 use std::alloc::{AllocError, Global};
 use std::collections::BTreeSet;
 use std::marker::Model;
@@ -76,7 +78,7 @@ impl Made {
         }
     }
 
-    /// With an entry more, at the number behind these where one is left (else `Full`).
+    /// With an entry more, at the number after these where one is left (else `Full`).
     #[tactic(auto, using(crate::proofs::Looked::left_behind_few))]
     pub(crate) fn with_entry(
         self,
@@ -142,7 +144,7 @@ impl Made {
     }
 }
 
-/// The number behind so many entries, where one is left (else `Full`).
+/// The number after so many entries, where one is left (else `Full`).
 #[tactic(auto, using(crate::proofs::Looked::left_is))]
 fn number_behind(next: u64, count: u32) -> Result<u32, RefusalKind>
     ensures { result ≡ batches.number_behind next count }

@@ -1,23 +1,24 @@
-//! One row of a batch, behind the rows before it.
+//! One row of a batch, after the rows before it.
 
 ghost use Rattle.std.specs.Prelude.{◌≡◌, Err, IfErr, None, Result, Some, false, if◌then◌else◌, true};
 ghost use Rattle.std.specs.Option.{option_map_or};
 ghost use Rattle.record_text.specs.declared.refusal.Refusal.{Refusal};
 ghost use Rattle.record_text.specs.declared.refusal.RefusalKind.{RefusalKind};
 ghost use Rattle.record_kinds.specs.Model as model;
-ghost use Rattle.archive_view.specs.Looks.{Agrees, CountsFailures, CountsStops, is_failure, is_stop};
-ghost use Rattle.archive_view.specs.Views.{On};
-ghost use Rattle.archive_looks.specs.Checks.{each, passed};
+ghost use Rattle.archive_state.specs.Looks.{Agrees, CountsFailures, CountsStops, is_failure, is_stop};
+ghost use Rattle.archive_state.specs.Views.{On};
+ghost use Rattle.command_checks.specs.Checks.{each, passed};
 ghost use Rattle.commands.specs.Rows.{and_then};
 ghost use Rattle.entry_batches.specs.Batches as batches;
 ghost use Rattle.entry_batches.specs.Placed.{placed_unless_stopped, refused_at};
 
 use crate::made::Made;
-use archive_looks::{check_key, check_place, check_texts};
+use archive_state::View;
 use archive_steps::{entry_of, kept_if};
-use archive_view::View;
+use command_checks::{check_key, check_place, check_texts};
 use commands::EntryRow;
-use records::{Entry, Refusal, RefusalKind};
+use record_kinds::Entry;
+use record_text::{Refusal, RefusalKind};
 use std::alloc::Global;
 
 /// What the rows before have made, and the entry of this one. Its refusal has the place of the row.
@@ -81,7 +82,7 @@ fn refused_at(place: u32, kind: RefusalKind) -> Refusal
     }
 }
 
-/// The entry of a row, behind what the rows before have made. First its words are looked at (`BadText`), then its place
+/// The entry of a row, after what the rows before have made. First its words are looked at (`BadText`), then its place
 /// (`NoSuch`, `WrongKind`, `BadText`), its roles (`NotOfKind`), and its key in the archive and among the rows before
 /// (`DuplicateEntry`).
 fn row_entry<V: View>(

@@ -89,7 +89,7 @@ fn are_from_text(entry: &Entry, lines: &[Carried]) -> bool
     }
 }
 
-/// What is behind a line of a tag and a text. `None`: the first line is another one.
+/// What is after a line of a tag and a text. `None`: the first line is another one.
 fn behind_text<'a>(lines: &'a [Carried], tag: &str, text: &str) -> Option<&'a [Carried]>
     ensures { (ks : Lines) → MatchOption result
         (are lines.now (shapes.text_line tag.now text.now ∷ ks) ≡ false)
@@ -103,7 +103,7 @@ fn behind_text<'a>(lines: &'a [Carried], tag: &str, text: &str) -> Option<&'a [C
     }
 }
 
-/// What is behind a line of a tag that names a record. `None`: the first line is another one.
+/// What is after a line of a tag that names a record. `None`: the first line is another one.
 fn behind_pointer<'a>(lines: &'a [Carried], tag: &str, number: u32) -> Option<&'a [Carried]>
     ensures { (ks : Lines) → MatchOption result
         (are lines.now (shapes.pointer_line tag.now number [] ∷ ks) ≡ false)
@@ -117,7 +117,7 @@ fn behind_pointer<'a>(lines: &'a [Carried], tag: &str, number: u32) -> Option<&'
     }
 }
 
-/// What is behind the line of a date, where there is one. `None`: the first line is another one.
+/// What is after the line of a date, where there is one. `None`: the first line is another one.
 fn behind_date<'a>(lines: &'a [Carried], date: &Option<Date>) -> Option<&'a [Carried]>
     ensures { (ks : Lines) → MatchOption result
         (are lines.now (shapes.text_lines (codes "DATE") (option_map date_text date.now) ++ ks) ≡ false)
@@ -130,7 +130,7 @@ fn behind_date<'a>(lines: &'a [Carried], date: &Option<Date>) -> Option<&'a [Car
     }
 }
 
-/// What is behind the line of a place, where there is one. `None`: the first line is another one.
+/// What is after the line of a place, where there is one. `None`: the first line is another one.
 fn behind_place<'a, K: Known>(
     known: &K,
     lines: &'a [Carried],
@@ -146,7 +146,7 @@ fn behind_place<'a, K: Known>(
     }
 }
 
-/// What is behind the line of a place with its path and number. `None`: the first line is another one.
+/// What is after the line of a place with its path and number. `None`: the first line is another one.
 fn behind_said<'a>(lines: &'a [Carried], path: &str, number: u32) -> Option<&'a [Carried]>
     ensures { (ks : Lines) → MatchOption result
         (are lines.now (shapes.line (codes "PLAC") (value.Text path.now) (shapes.loc_line number ∷ []) ∷ ks) ≡ false)
@@ -281,7 +281,7 @@ fn is_link_alone(lines: &[Carried], link: &Link) -> bool
     }
 }
 
-/// What is behind the line of a link. `None`: the first line is another one.
+/// What is after the line of a link. `None`: the first line is another one.
 fn behind_link<'a>(lines: &'a [Carried], link: &Link) -> Option<&'a [Carried]>
     ensures { (ks : Lines) → MatchOption result
         (are lines.now (link_line link.now ∷ ks) ≡ false)

@@ -22,7 +22,7 @@ use Rattle.field_rows.specs.declared.places.EventRow.TheVariants as event_row
 abbrev pub is_place : Tree Line → Bool
 is_place t = tagged (codes "PLAC") t && (is_text t && is_place_text (text_of t))
 
--- the rows behind it
+-- the rows after it
 abbrev pub beside : Known → Tree Line → Field
 beside known t = row (tagged (codes "_PART") t && names_a (codes "INDI") known (value_of t)) a_participant
     (row (is_citation known t) a_citation carried)

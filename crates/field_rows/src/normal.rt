@@ -46,7 +46,7 @@ pub fn made_normal(alloc: Global, text: &str) -> Result<String, AllocError>
     Ok(out)
 }
 
-/// What is before the first comma and behind it.
+/// What is before the first comma and after it.
 fn cut(text: &str) -> Option<(&str, &str)>
     ensures { MatchOption result (Without 44 text.now)
         (λ x. (text.now ≡ x.0.now ++ 44 ∷ x.1.now) × Without 44 x.0.now) }
@@ -83,7 +83,7 @@ fn until_word(text: &str) -> &str
     rest
 }
 
-/// What is behind one space.
+/// What is after one space.
 fn behind_space(text: &str) -> Option<&str>
     ensures { MatchOption result ((rest : List ℕ) → text.now ≢ 32 ∷ rest) (λ rest. text.now ≡ 32 ∷ rest.now) }
 {

@@ -38,8 +38,8 @@ use Rattle.file_conversion.specs.declared.fault.ConversionError.TheVariants.{
   TooLarge,
   UnknownSet,
 }
-use Rattle.unit_lines.specs.Lines.{Line}
-use Rattle.unit_lines.specs.Moves.{moved}
+use Rattle.character_sets.specs.Lines.{Line}
+use Rattle.character_sets.specs.Moves.{moved}
 use Rattle.file_conversion.specs.Conversion.{line_characters, text_of_lines}
 use Rattle.file_conversion.specs.Streams.{NoText}
 

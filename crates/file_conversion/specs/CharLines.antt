@@ -16,11 +16,11 @@ use Rattle.std.specs.Prelude.{
   if◌then◌else◌,
 }
 use Rattle.std.specs.Str.{bytes_eq}
-use Rattle.unit_lines.specs.declared.heads.LineHead.{LineHead}
+use Rattle.character_sets.specs.declared.heads.LineHead.{LineHead}
 use Rattle.file_conversion.specs.declared.charsets.Place.{Place}
 use Rattle.file_conversion.specs.declared.charsets.Place.TheVariants.{Start}
-use Rattle.unit_lines.specs.Lines.{Line, is_blank}
-use Rattle.unit_lines.specs.Heads.{head_of}
+use Rattle.character_sets.specs.Lines.{Line, is_blank}
+use Rattle.character_sets.specs.Heads.{head_of}
 use Rattle.file_conversion.specs.Charsets.{is_told, next_place, word_at}
 
 -- from its tag on the line is `CHAR UTF-8`

@@ -30,15 +30,15 @@ use Rattle.std.specs.List.{prefix_len, suffix_len}
 use Rattle.std.specs.Str.{bytes_eq}
 use Rattle.character_sets.specs.declared.set.CharacterSet.{CharacterSet}
 use Rattle.character_sets.specs.declared.set.CharacterSet.TheVariants as set
-use Rattle.unit_lines.specs.declared.heads.KnownTag.{KnownTag}
-use Rattle.unit_lines.specs.declared.heads.KnownTag.TheVariants.{Head, Char}
-use Rattle.unit_lines.specs.declared.heads.LineHead.{LineHead}
+use Rattle.character_sets.specs.declared.heads.KnownTag.{KnownTag}
+use Rattle.character_sets.specs.declared.heads.KnownTag.TheVariants.{Head, Char}
+use Rattle.character_sets.specs.declared.heads.LineHead.{LineHead}
 use Rattle.file_conversion.specs.declared.charsets.NamedSet.{NamedSet}
 use Rattle.file_conversion.specs.declared.charsets.Place.{Place}
 use Rattle.file_conversion.specs.declared.charsets.Reading.{Reading}
 use Rattle.file_conversion.specs.declared.charsets.Place.TheVariants.{Start, Below, Beyond}
-use Rattle.unit_lines.specs.Lines.{Line, is_blank, is_white, units_of}
-use Rattle.unit_lines.specs.Heads.{head_of}
+use Rattle.character_sets.specs.Lines.{Line, is_blank, is_white, units_of}
+use Rattle.character_sets.specs.Heads.{head_of}
 
 abbrev pub is_head_tag : KnownTag → Bool
 is_head_tag Head = true

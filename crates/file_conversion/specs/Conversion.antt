@@ -37,8 +37,8 @@ use Rattle.file_conversion.specs.declared.charsets.NamedSet.{NamedSet}
 use Rattle.file_conversion.specs.declared.deciding.Reason.{Reason}
 use Rattle.file_conversion.specs.declared.deciding.Reason.TheVariants.{Mark, Nul, Asked, Ascii, Whole, Named}
 use Rattle.file_conversion.specs.declared.units.LeftOut.{LeftOut}
-use Rattle.unit_lines.specs.Lines.{Line, is_blank, lines}
-use Rattle.unit_lines.specs.Moves.{moved}
+use Rattle.character_sets.specs.Lines.{Line, is_blank, lines}
+use Rattle.character_sets.specs.Moves.{moved}
 use Rattle.file_conversion.specs.Charsets.{named_by, said}
 
 -- ---- the units of a file

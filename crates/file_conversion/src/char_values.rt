@@ -2,7 +2,7 @@
 
 ghost use Rattle.std.specs.Prelude.{◌≡◌, ◌≤◌, ◌++◌, ◌∷◌, IfOk, IfSome, OnOk, codes, length};
 ghost use Rattle.std.specs.Str.{bytes_eq};
-ghost use Rattle.unit_lines.specs.Lines.{lines};
+ghost use Rattle.character_sets.specs.Lines.{lines};
 ghost use Rattle.file_conversion.specs.Charsets.{word_at};
 ghost use Rattle.file_conversion.specs.CharLines.{
   numbers_at,
@@ -13,8 +13,8 @@ ghost use Rattle.file_conversion.specs.CharLines.{
 };
 
 use crate::charsets::{Place, is_told, next_place, trimmed, word_of};
+use character_sets::{LineHead, first_line, is_blank, line_head};
 use std::alloc::{AllocError, Global};
-use unit_lines::{LineHead, first_line, is_blank, line_head};
 
 /// The lines CHAR of the first HEAD.
 #[derive(Drop)]

@@ -1,7 +1,7 @@
 //! The set that the head of a file names, and the line CHAR that says UTF-8 in its place.
 
 ghost use Rattle.std.specs.Prelude.{◌≡◌, ◌≤◌, ◌<◌, IfOk, length, map, string_bytes};
-ghost use Rattle.unit_lines.specs.Lines.{is_white as is_white_of};
+ghost use Rattle.character_sets.specs.Lines.{is_white as is_white_of};
 ghost use Rattle.std.specs.List.{suffix_len};
 ghost use Rattle.file_conversion.specs.Charsets.{
   agreed as agreed_of,
@@ -22,9 +22,8 @@ ghost use Rattle.file_conversion.specs.Charsets.{
   without_end as without_end_of,
 };
 
-use character_sets::CharacterSet;
+use character_sets::{CharacterSet, KnownTag, LineHead, line_head, past_white};
 use std::alloc::{AllocError, Global};
-use unit_lines::{KnownTag, LineHead, line_head, past_white};
 
 /// What the lines CHAR of the first HEAD name.
 #[derive(Clone, Copy, Debug, PartialEq, Eq)]

@@ -18,7 +18,7 @@ ghost use Rattle.std.specs.Prelude.{
 ghost use Rattle.std.specs.Io.KnownBytes.{Appends, Keeps};
 ghost use Rattle.devices.specs.Devices.{AppendsBeginning, Rose};
 ghost use Rattle.character_sets.specs.Sets.{characters};
-ghost use Rattle.unit_lines.specs.Lines.{lines};
+ghost use Rattle.character_sets.specs.Lines.{lines};
 ghost use Rattle.file_conversion.specs.Conversion.{
   text_of_file as text_of_file_of,
   text_of_lines,
@@ -39,11 +39,10 @@ use crate::deciding::set_of_file;
 use crate::fault::ConversionError;
 use crate::naming::{named_by, said};
 use crate::units::file_units;
-use character_sets::{CharacterSet, push_text};
+use character_sets::{CharacterSet, Moved, moved_line, push_text};
 use devices::{Device, TransferError, read_up_to, write_flushed};
 use std::alloc::{AllocError, Global};
 use std::io::{Read, Write};
-use unit_lines::{Moved, moved_line};
 
 /// The most bytes that are read.
 const MAX_READ: usize = 134_217_728;

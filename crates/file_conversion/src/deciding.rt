@@ -2,7 +2,7 @@
 
 ghost use Rattle.std.specs.Prelude.{◌≡◌, ◌<◌, IfOk};
 ghost use Rattle.std.specs.List.{list_all};
-ghost use Rattle.unit_lines.specs.Lines.{lines};
+ghost use Rattle.character_sets.specs.Lines.{lines};
 ghost use Rattle.file_conversion.specs.Conversion.{
   by_bytes as by_bytes_of,
   by_lines as by_lines_of,
@@ -23,9 +23,10 @@ ghost use Rattle.file_conversion.specs.Conversion.{
 use crate::charsets::NamedSet;
 use crate::naming::named_by;
 use crate::units::file_units;
-use character_sets::{CharacterSet, is_read_alike, is_utf8};
+use character_sets::{
+    CharacterSet, Moved, first_line, is_blank, is_read_alike, is_utf8, moved_line,
+};
 use std::alloc::{AllocError, Global};
-use unit_lines::{Moved, first_line, is_blank, moved_line};
 
 /// The set of a file, where one may be asked for. The inner error is the number of the line that leaves it open,
 /// counted from 1 without blank lines.

@@ -1,6 +1,6 @@
 //! Files of lines in the character sets that societies have them in, written in UTF-8.
 //!
-//! It uses `character_sets` for the characters, `unit_lines` for the lines, and `devices`. It knows HEAD and CHAR.
+//! It uses `character_sets` for the characters, `character_sets` for the lines, and `devices`. It knows HEAD and CHAR.
 //!
 //! Callers may rely on: what is written depends on the bytes alone; nothing is written before the whole file was read,
 //! its set is known and its text is made; each line and each line end stays, but for the value of CHAR, a line CHAR

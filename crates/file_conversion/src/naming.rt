@@ -1,7 +1,7 @@
 //! What the lines CHAR of a file name, and the file with a line CHAR that says UTF-8.
 
 ghost use Rattle.std.specs.Prelude.{◌≡◌, ◌+◌, ◌<◌, ◌≤◌, ◌++◌, ◌∷◌, [], IfOk, None, OnOk};
-ghost use Rattle.unit_lines.specs.Lines.{lines};
+ghost use Rattle.character_sets.specs.Lines.{lines};
 ghost use Rattle.file_conversion.specs.Charsets.{
   added as added_of,
   line_end as line_end_of,
@@ -14,8 +14,8 @@ ghost use Rattle.file_conversion.specs.Charsets.{
 ghost use Rattle.file_conversion.specs.declared.charsets.Place.TheVariants.{Start, Below};
 
 use crate::charsets::{NamedSet, Place, Reading, is_char, is_head, named_with, next_place};
+use character_sets::{Cut, first_line, is_blank, line_head};
 use std::alloc::{AllocError, Global};
-use unit_lines::{Cut, first_line, is_blank, line_head};
 
 /// What the lines CHAR of a file name, if its first line is a HEAD. `None`: there is no such line.
 pub fn named_by(alloc: Global, units: &[u16]) -> Result<Option<NamedSet>, AllocError>

@@ -31,7 +31,7 @@ use Rattle.file_faults.specs.Reading.{Course, fault_of, left_by}
 abbrev pub clean_course : Progress → Course
 clean_course q = record { number = q.count; lines = q; other = false }
 
--- what a piece is behind such lines
+-- what a piece is after such lines
 abbrev pub Step : Progress → List ℕ → Result (Option Parts) TreeKind → Type 0
 Step q p (Ok None) = (fault_of (clean_course q) p ≡ None) × (left_by (clean_course q) p ≡ clean_course q)
 Step q p (Ok (Some l)) = (fault_of (clean_course q) p ≡ None) × (left_by (clean_course q) p ≡ clean_course (after q l))

@@ -32,12 +32,12 @@ pub record Faulty : Type 0 where
   pub kind : TreeKind
   pub text : List ℕ
 
--- what stands behind the trailer is reported once, and ends the list
+-- what stands after the trailer is reported once, and ends the list
 abbrev pub is_last : TreeKind → Bool
 is_last AfterTrailer = true
 is_last _ = false
 
--- the line behind so many lines
+-- the line after so many lines
 abbrev pub faulty : Course → TreeKind → List ℕ → Faulty
 faulty c k p = record { line = c.number + 1; kind = k; text = p }
 
@@ -45,7 +45,7 @@ abbrev pub noted : Course → List ℕ → Option TreeKind → List Faulty → L
 noted c p None fs = fs
 noted c p (Some k) fs = faulty c k p ∷ (if is_last k then [] else fs)
 
--- the faulty ones among pieces, and then what is faulty behind them
+-- the faulty ones among pieces, and then what is faulty after them
 unfoldable pub faults_in : Course → List (List ℕ) → (Course → List Faulty) → List Faulty
 faults_in c [] rest = rest c
 faults_in c (p ∷ ps) rest = noted c p (fault_of c p) (faults_in (left_by c p) ps rest)

@@ -38,7 +38,7 @@ level_in (a ∷ b ∷ more) =
     if is_space b then Some tens
     else (digit_at b >>= λ ones. if begins_with_space more then Some (10 * tens + ones) else None)
 
--- the level that a line begins with, behind white space
+-- the level that a line begins with, after white space
 unfoldable pub level_of : List ℕ → Option ℕ
 level_of p = level_in (skip is_white p)
 

@@ -1,4 +1,4 @@
--- Reading on behind a faulty line: what is wrong with each line first, and what it counts as for those behind it.
+-- Reading on after a faulty line: what is wrong with each line first, and what it counts as for those after it.
 use Rattle.std.specs.Prelude.{
   ℕ,
   ◌+◌,

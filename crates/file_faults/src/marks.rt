@@ -15,7 +15,7 @@ ghost use Rattle.file_faults.specs.Marks.{
 
 use std::alloc::{AllocError, Global};
 
-/// The level that a line begins with: one or two digits and a space, behind white space.
+/// The level that a line begins with: one or two digits and a space, after white space.
 #[tactic(auto, unfolding(crate::specs::Marks::level_of))]
 pub(crate) fn level_of(piece: &[u8]) -> Option<u8>
     ensures { result ≡ level_spelled piece.now }

@@ -1,4 +1,4 @@
-//! Reading on behind a faulty line.
+//! Reading on after a faulty line.
 
 ghost use Rattle.std.specs.Prelude.{
   ◌≡◌,
@@ -81,7 +81,7 @@ fn at_most(level: u8, most: usize) -> u8
     }
 }
 
-/// Adds a line behind those so far, no deeper than one below the last of them.
+/// Adds a line after those so far, no deeper than one below the last of them.
 fn behind(alloc: Global, seen: &mut Seen, line: &LineRef<'_>) -> Result<(), AllocError>
     requires count { (progress seen.old).count + 1 < 2 ^ 32 }
     requires stacked { IsStacked seen.old }

@@ -144,7 +144,7 @@ fn list_cut_off(
     list.add(alloc, course.number + 1, kind, last)
 }
 
-/// Lists what is faulty behind the last line end.
+/// Lists what is faulty after the last line end.
 fn list_last(
     alloc: Global,
     course: &mut Course,
@@ -168,7 +168,7 @@ fn list_last(
     Ok(())
 }
 
-/// So many of the bytes, and the byte behind them.
+/// So many of the bytes, and the byte after them.
 fn limited(bytes: &[u8], most: usize) -> (&[u8], Option<u8>)
     ensures front { result.0.now ≡ take most bytes.now }
     ensures next { result.1 ≡ slice_get bytes.now most }

@@ -1,4 +1,4 @@
--- What a phrase behind words is.
+-- What a phrase after words is.
 use Rattle.std.proofs.Common.{
   ◌≡◌,
   ℕ,

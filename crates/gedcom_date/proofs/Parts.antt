@@ -93,7 +93,7 @@ is_cons p w ws front back true e h more =
     record { word = w; parts = joined; passes = e }
 is_cons p w ws front back false e h more = is_none p w ws front back (parted p ws) refl h more
 
--- the list is what stands before, a word that passes, and what stands behind
+-- the list is what stands before, a word that passes, and what stands after
 pub parted_is : (p : List ℕ → Bool) (ws front back : List (List ℕ)) → parted p ws ≡ Some (front, back)
     → IsPartedAt p ws front back
 parted_is p [] front back h = absurd cc

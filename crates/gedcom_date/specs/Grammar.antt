@@ -46,7 +46,7 @@ use Rattle.calendar_days.specs.declared.calendar.Year.TheVariants.{Single, Doubl
 use Rattle.calendar_days.specs.declared.calendar.Extent.{Extent}
 use Rattle.calendar_days.specs.declared.calendar.Extent.TheVariants.{BeforeChrist, Whole, Month, Day}
 
--- the number that digits spell, behind those that gave so_far
+-- the number that digits spell, after those that gave so_far
 abbrev pub value_from : ℕ → List ℕ → ℕ
 value_from so_far [] = so_far
 value_from so_far (d ∷ ds) = value_from (10 * so_far + (d - 48)) ds
@@ -86,7 +86,7 @@ months Republican = republican_names
 abbrev pub IsMonthWord : Calendar → List ℕ → ℕ → Type 0
 IsMonthWord c word m = (name : List ℕ) × (1 ≤ m) × (slice_get (months c) (m - 1) ≡ Some name) × Reads word name
 
--- a year, a month and a year, or a day, a month and a year; behind a year alone B.C., with a space or without
+-- a year, a month and a year, or a day, a month and a year; after a year alone B.C., with a space or without
 abbrev pub IsExtentOf : Calendar → List (List ℕ) → Extent → Type 0
 IsExtentOf c ws (BeforeChrist n) =
     (year : List ℕ) × (mark : List ℕ) × ((ws ≡ year ∷ mark ∷ []) ⊎ (ws ≡ (year ++ mark) ∷ [])) × IsNumber 4 year n

@@ -82,7 +82,7 @@ number_of (a ∷ b ∷ c ∷ d ∷ e ∷ more) = None
 abbrev pub reads : List ℕ → List ℕ → Bool
 reads word keyword = bytes_eq (map to_ascii_lowercase word) (map to_ascii_lowercase keyword)
 
--- a double year, of its first year and what stands behind the stroke
+-- a double year, of its first year and what stands after the stroke
 abbrev pub double_of : Option ℕ → List ℕ → Option Year
 double_of (Some n) (a ∷ b ∷ []) =
     if is_ascii_digit a && is_ascii_digit b && nat_le n 9998 && (10 * (a - 48) + (b - 48) == (n + 1) % 100) then Some
@@ -176,7 +176,7 @@ joined_before_christ w =
 abbrev pub whole_of : List ℕ → Option Extent
 whole_of w = option_map_or (λ n. Some (BeforeChrist n)) (joined_before_christ w) (option_map Whole (year_of w))
 
--- what the words behind the escape tell
+-- what the words after the escape tell
 unfoldable pub extent_of : Calendar → List (List ℕ) → Option Extent
 extent_of c [] = None
 extent_of c (y ∷ []) = whole_of y
@@ -227,7 +227,7 @@ is_and w = reads w (codes "AND")
 abbrev pub is_to : List ℕ → Bool
 is_to w = reads w (codes "TO")
 
--- words before a place, and words behind it
+-- words before a place, and words after it
 abbrev pub Halves : Type 0
 Halves = List (List ℕ) × List (List ℕ)
 
@@ -235,12 +235,12 @@ Halves = List (List ℕ) × List (List ℕ)
 abbrev pub onto_front : List ℕ → Halves → Halves
 onto_front w halves = (w ∷ halves.0, halves.1)
 
--- the words before the first that passes, and those behind it
+-- the words before the first that passes, and those after it
 abbrev pub parted : (List ℕ → Bool) → List (List ℕ) → Option Halves
 parted p [] = None
 parted p (w ∷ ws) = if p w then Some ([], ws) else option_map (onto_front w) (parted p ws)
 
--- two dates, of the words before and behind
+-- two dates, of the words before and after
 abbrev pub two_dates : (Told → Told → Form) → Option Halves → Option Form
 two_dates form None = None
 two_dates form (Some parts) = told_of parts.0 >>= λ d. told_of parts.1 >>= λ e. Some (form d e)
@@ -250,7 +250,7 @@ abbrev pub from_form : Option Halves → List (List ℕ) → Option Form
 from_form None ws = option_map SinceDate (told_of ws)
 from_form (Some parts) ws = two_dates FromToDates (Some parts)
 
--- the form of the words behind a keyword
+-- the form of the words after a keyword
 unfoldable pub keyword_form : Keyword → List (List ℕ) → Option Form
 keyword_form (Near how) ws = option_map (NearDate how) (told_of ws)
 keyword_form Before ws = option_map BeforeDate (told_of ws)

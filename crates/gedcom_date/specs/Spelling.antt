@@ -80,7 +80,7 @@ extent_text c (Whole year) = year_text year
 extent_text c (Month m year) = month_name c m ++ 32 ∷ year_text year
 extent_text c (Day d m year) = decimal d ++ 32 ∷ month_name c m ++ 32 ∷ year_text year
 
--- a date behind its escape
+-- a date after its escape
 abbrev pub date_text : Calendar → Extent → List ℕ
 date_text Gregorian extent = extent_text Gregorian extent
 date_text Julian extent = codes "@#DJULIAN@" ++ 32 ∷ extent_text Julian extent
@@ -122,6 +122,6 @@ spelling (InterpretedDate d phrase) = after_text (codes "INT") d ++ 32 ∷ phras
 spelling (PhraseAlone phrase) = phrase_text phrase
 spelling (VerbatimText text) = text
 
--- the text was put behind the old one
+-- the text was put after the old one
 abbrev pub Appends : List ℕ → List ℕ → List ℕ → Type 0
 Appends old new text = new ≡ old ++ text

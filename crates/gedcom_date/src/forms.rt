@@ -82,7 +82,7 @@ fn phrase_value(alloc: Global, front: &str, phrase: &str) -> Result<Option<DateV
     bracketed(alloc, &words, phrase)
 }
 
-/// The value of a phrase behind words.
+/// The value of a phrase after words.
 fn bracketed(alloc: Global, words: &[&str], phrase: &str) -> Result<Option<DateValue>, AllocError>
     ensures found { IfOk result (λ found.
         IfSome found (Holds (phrase_form (views words.now) phrase.now))) }
@@ -147,7 +147,7 @@ fn word_value(words: &[&str]) -> Option<DateValue>
     }
 }
 
-/// The value of the words behind a keyword.
+/// The value of the words after a keyword.
 #[tactic(auto, unfolding(crate::specs::Reading::keyword_form))]
 fn keyword_value(keyword: Keyword, words: &[&str]) -> Option<DateValue>
     ensures found { IfSome result (Holds (keyword_form keyword (views words.now))) }
@@ -164,7 +164,7 @@ fn keyword_value(keyword: Keyword, words: &[&str]) -> Option<DateValue>
     }
 }
 
-/// The value of the words behind `BET`.
+/// The value of the words after `BET`.
 fn between_value(words: &[&str]) -> Option<DateValue>
     ensures found { IfSome result
         (Holds (two_dates BetweenDates (parted is_and (views words.now)))) }
@@ -174,7 +174,7 @@ fn between_value(words: &[&str]) -> Option<DateValue>
     Some(DateValue::Between(period(front, back)?))
 }
 
-/// The value of the words behind `FROM`.
+/// The value of the words after `FROM`.
 fn from_value(words: &[&str]) -> Option<DateValue>
     ensures found { IfSome result
         (Holds (from_form (parted is_to (views words.now)) (views words.now))) }
@@ -187,7 +187,7 @@ fn from_value(words: &[&str]) -> Option<DateValue>
     }
 }
 
-/// The words before the first that reads as the keyword, and those behind it.
+/// The words before the first that reads as the keyword, and those after it.
 fn part<'a, 'b>(words: &'a [&'b str], keyword: &str) -> Option<(&'a [&'b str], &'a [&'b str])>
     ensures { option_map (λ x. (views x.0.now, views x.1.now)) result
         ≡ parted (λ w. reads w keyword.now) (views words.now) }

@@ -6,8 +6,6 @@ ghost use Rattle.gedcom_date.specs.Grammar.{Says};
 ghost use Rattle.gedcom_date.specs.View.{view};
 ghost use Rattle.gedcom_date.specs.declared.value.DateValue.{DateValue};
 
-pub use calendar_days::laws::{each_day_has_one_number, the_formulas_count};
-
 /// Each text has one value, and what is written of a value is read as the same value.
 pub fn a_text_has_one_value()
     ensures some { IsSomeValue }

@@ -26,7 +26,6 @@ mod writing;
 
 pub use approximation::Approximation;
 pub use before::read_date_before;
-pub use calendar_days::{Calendar, CalendarDate, Extent, Year};
 pub use days::span;
 pub use fault::{DateFault, DateKind};
 pub use forms::read_date;

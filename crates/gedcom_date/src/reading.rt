@@ -38,7 +38,7 @@ pub(crate) fn year(word: &str) -> Option<Year>
     }
 }
 
-/// The double year of its first year and what stands behind the stroke.
+/// The double year of its first year and what stands after the stroke.
 fn double_year(first: Option<u16>, back: &str) -> Option<Year>
     ensures { result ≡ double_of first back.now }
 {
@@ -213,7 +213,7 @@ fn two_digits(a: u8, b: u8) -> Option<u8>
     if number == 0 { None } else { Some(number) }
 }
 
-/// What the words behind the escape tell.
+/// What the words after the escape tell.
 #[tactic(auto, unfolding(crate::specs::Reading::extent_of))]
 pub(crate) fn extent(calendar: Calendar, words: &[&str]) -> Option<Extent>
     ensures { result ≡ extent_of calendar (views words.now) }

@@ -122,7 +122,7 @@ fn push_phrase(out: &mut String, phrase: &str) -> Result<(), AllocError>
     write!(out, "({phrase})")
 }
 
-/// Appends a date behind its escape.
+/// Appends a date after its escape.
 fn push_date(out: &mut String, date: &CalendarDate) -> Result<(), AllocError>
     ensures { OnOk result (Appends (string_bytes out.old) (string_bytes out.new)
         (told_text (told date.now))) }

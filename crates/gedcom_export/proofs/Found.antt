@@ -11,8 +11,8 @@ use Rattle.record_kinds.specs.declared.record.Record.{Record}
 use Rattle.record_shapes.specs.Lists.{EachOf}
 use Rattle.archive_state.specs.Content.{Records}
 use Rattle.archive_state.proofs.Rising.{less_is}
-use Rattle.export_forest.specs.Order.{Numbered}
-use Rattle.export_index.specs.Index.{numbers}
+use Rattle.gedcom_export.specs.Order.{Numbered}
+use Rattle.gedcom_export.specs.Index.{numbers}
 use Rattle.list_laws.proofs.Booleans.{first_holds, rest_holds}
 
 -- each is found at its number

@@ -29,13 +29,13 @@ use Rattle.record_kinds.specs.declared.record.Record.{Record}
 use Rattle.record_kinds.specs.declared.record.Record.TheVariants as kind
 use Rattle.record_shapes.specs.Shapes.{shape_of}
 use Rattle.gedcom_tree.specs.Text.{line_text, text, trailer}
-use Rattle.record_nodes.specs.Header.{header}
-use Rattle.record_nodes.specs.Pages.{nodes_text, record_page}
+use Rattle.node_writing.specs.Header.{header}
+use Rattle.node_writing.specs.Pages.{nodes_text, record_page}
 use Rattle.archive_state.specs.Content.{Records}
-use Rattle.export_forest.specs.Around.{around}
-use Rattle.export_forest.specs.Forest.{exported, without_numbers}
-use Rattle.export_forest.specs.Names.{name_of}
-use Rattle.export_forest.specs.Order.{
+use Rattle.gedcom_export.specs.Around.{around}
+use Rattle.gedcom_export.specs.Forest.{exported, without_numbers}
+use Rattle.gedcom_export.specs.Names.{name_of}
+use Rattle.gedcom_export.specs.Order.{
   Numbered,
   citations_of,
   events_of,
@@ -47,15 +47,15 @@ use Rattle.export_forest.specs.Order.{
   of_rank,
   rank as rank_of,
 }
-use Rattle.export_forest.specs.Pages.{household_page}
-use Rattle.export_forest.proofs.Texts.{text_of_exported}
-use Rattle.export_index.specs.Index.{Index, IsIndexOf, numbers, place_in_export}
-use Rattle.export_index.specs.Shown.{around_in, names_in}
-use Rattle.export_index.specs.declared.owned.Owned.{Owned}
-use Rattle.export_index.specs.declared.rank.Rank.{Rank}
-use Rattle.export_index.specs.declared.rank.Rank.TheVariants as rank
-use Rattle.export_index.proofs.Places.{paths_are}
-use Rattle.export_index.proofs.Whole.{names_are, numbers_are}
+use Rattle.gedcom_export.specs.Pages.{household_page}
+use Rattle.gedcom_export.proofs.Texts.{text_of_exported}
+use Rattle.gedcom_export.specs.Index.{Index, IsIndexOf, numbers, place_in_export}
+use Rattle.gedcom_export.specs.Shown.{around_in, names_in}
+use Rattle.gedcom_export.specs.declared.index_owned.Owned.{Owned}
+use Rattle.gedcom_export.specs.declared.rank.Rank.{Rank}
+use Rattle.gedcom_export.specs.declared.rank.Rank.TheVariants as rank
+use Rattle.gedcom_export.proofs.Places.{paths_are}
+use Rattle.gedcom_export.proofs.Whole.{names_are, numbers_are}
 use Rattle.gedcom_export.specs.Pieces.{
   alone,
   below_at,

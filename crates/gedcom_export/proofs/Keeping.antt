@@ -42,9 +42,9 @@ use Rattle.std.specs.FinMap.{
 use Rattle.record_kinds.specs.declared.record.Record.{Record}
 use Rattle.record_text.specs.declared.refusal.RefusalKind.{RefusalKind}
 use Rattle.archive_state.specs.Content.{Records}
-use Rattle.archive_view.specs.Looks.{Looked}
-use Rattle.export_forest.specs.Order.{Numbered}
-use Rattle.export_index.specs.Index.{numbers}
+use Rattle.archive_state.specs.Looks.{Looked}
+use Rattle.gedcom_export.specs.Order.{Numbered}
+use Rattle.gedcom_export.specs.Index.{numbers}
 use Rattle.gedcom_export.specs.Kept.{kept_of, with_found}
 use Rattle.gedcom_export.proofs.Found.{AreAt, all_got}
 use Rattle.list_laws.proofs.Numbers.{itself}

@@ -1,3 +1,8 @@
+pub mod Texts
+mod Growing
+pub mod Places
+pub mod Walked
+pub mod Whole
 mod Found
 pub mod Households
 pub mod Keeping

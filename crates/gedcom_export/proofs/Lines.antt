@@ -7,12 +7,12 @@ use Rattle.std.proofs.lemmas.Grind.{flat_map-append}
 use Rattle.stored_lines.specs.Line.{Line, Lines}
 use Rattle.stored_lines.specs.Tree.{Tree}
 use Rattle.record_shapes.specs.Shapes.{citation_lines, citation_part, event_part, events_below, side_line}
-use Rattle.record_nodes.specs.Pages.{page}
+use Rattle.node_writing.specs.Pages.{page}
 use Rattle.archive_state.specs.Content.{Records}
-use Rattle.export_index.specs.Index.{Index}
-use Rattle.export_index.specs.Shown.{around_in}
-use Rattle.export_index.specs.declared.membership.Membership.{Membership}
-use Rattle.export_index.specs.declared.owned.Owned.{Owned}
+use Rattle.gedcom_export.specs.Index.{Index}
+use Rattle.gedcom_export.specs.Shown.{around_in}
+use Rattle.gedcom_export.specs.declared.membership.Membership.{Membership}
+use Rattle.gedcom_export.specs.declared.index_owned.Owned.{Owned}
 use Rattle.node_writing.proofs.Appending.{nothing, then_page}
 use Rattle.gedcom_export.specs.Pieces.{alone, events_at, those_at, with_citations}
 use Rattle.list_laws.proofs.Lists.{from_here}

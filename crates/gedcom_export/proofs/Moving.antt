@@ -1,4 +1,4 @@
--- Texts that are put behind what waits one after the other, and what of them is handed over.
+-- Texts that are put after what waits one after the other, and what of them is handed over.
 use Rattle.std.proofs.Common.{
   ◌≡◌,
   ℕ,
@@ -38,7 +38,7 @@ use Rattle.std.proofs.KnownBytes.{Appends-nil, Appends-trans}
 use Rattle.std.proofs.lemmas.List.{take-append-le}
 use Rattle.devices.specs.Devices.{AppendsBeginning}
 use Rattle.record_text.specs.declared.refusal.RefusalKind.{RefusalKind}
-use Rattle.archive_view.specs.Looks.{is_stop}
+use Rattle.archive_state.specs.Looks.{is_stop}
 use Rattle.gedcom_tree.proofs.Handing.{going_stops}
 use Rattle.gedcom_export.specs.Ends.{IsBegun, IsReason, IsWhole}
 use Rattle.gedcom_export.specs.Waiting.{Halts, IsShort, Moves}

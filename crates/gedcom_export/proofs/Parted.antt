@@ -11,13 +11,13 @@ use Rattle.record_kinds.specs.Model as model
 use Rattle.record_kinds.specs.declared.record.Record.{Record}
 use Rattle.record_kinds.specs.declared.record.Record.TheVariants as kind
 use Rattle.record_shapes.specs.Shapes.{Around, citation_lines, citation_part, event_part, events_below, line, side_line}
-use Rattle.record_nodes.specs.Pages.{page, record_page}
-use Rattle.record_nodes.proofs.Pages.{record-below}
+use Rattle.node_writing.specs.Pages.{page, record_page}
+use Rattle.node_writing.proofs.Pages.{record-below}
 use Rattle.archive_state.specs.Content.{Records}
-use Rattle.export_index.specs.Index.{Index}
-use Rattle.export_index.specs.Shown.{around_in, names_in}
-use Rattle.export_index.specs.declared.membership.Membership.{Membership}
-use Rattle.export_index.specs.declared.owned.Owned.{Owned}
+use Rattle.gedcom_export.specs.Index.{Index}
+use Rattle.gedcom_export.specs.Shown.{around_in, names_in}
+use Rattle.gedcom_export.specs.declared.membership.Membership.{Membership}
+use Rattle.gedcom_export.specs.declared.index_owned.Owned.{Owned}
 use Rattle.node_writing.specs.Parts.{event_head, family_head, person_head}
 use Rattle.node_writing.proofs.Parts.{event_parts, family_parts, person_parts}
 use Rattle.gedcom_export.specs.Pieces.{alone, below_at, events_at, listed, text_of, those_at, with_citations}

@@ -4,7 +4,7 @@ use Rattle.std.specs.Io.KnownBytes.{Appends}
 use Rattle.devices.specs.Devices.{AppendsBeginning}
 use Rattle.record_text.specs.declared.refusal.RefusalKind.{RefusalKind}
 use Rattle.record_text.specs.declared.refusal.RefusalKind.TheVariants.{ExportTooLarge, WriteFailed}
-use Rattle.archive_view.specs.Looks.{is_stop}
+use Rattle.archive_state.specs.Looks.{is_stop}
 
 -- the writer has got the whole text, which has at most 67,108,864 bytes
 pub record IsWhole (old new : Option (List ℕ)) (text : List ℕ) : Type 0 where

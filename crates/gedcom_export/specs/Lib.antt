@@ -1,3 +1,15 @@
+pub mod Around
+pub mod Forest
+pub mod Names
+pub mod Order
+pub mod Pages
+pub mod Adding
+pub mod Arranging
+pub mod Index
+pub mod Keyed
+pub mod Owned
+pub mod Paths
+pub mod Shown
 pub mod Ends
 pub mod Kept
 pub mod Pieces

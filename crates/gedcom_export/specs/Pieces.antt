@@ -7,14 +7,14 @@ use Rattle.record_kinds.specs.declared.record.Record.{Record}
 use Rattle.record_kinds.specs.declared.record.Record.TheVariants as kind
 use Rattle.record_shapes.specs.Shapes.{shape_of}
 use Rattle.gedcom_tree.specs.Text.{line_text, trailer}
-use Rattle.record_nodes.specs.Header.{header}
-use Rattle.record_nodes.specs.Pages.{nodes_text, record_page}
+use Rattle.node_writing.specs.Header.{header}
+use Rattle.node_writing.specs.Pages.{nodes_text, record_page}
 use Rattle.archive_state.specs.Content.{Records}
-use Rattle.export_index.specs.Index.{Index, numbers_in}
-use Rattle.export_index.specs.Shown.{around_in, names_in}
-use Rattle.export_index.specs.declared.owned.Owned.{Owned}
-use Rattle.export_index.specs.declared.rank.Rank.{Rank}
-use Rattle.export_index.specs.declared.rank.Rank.TheVariants as rank
+use Rattle.gedcom_export.specs.Index.{Index, numbers_in}
+use Rattle.gedcom_export.specs.Shown.{around_in, names_in}
+use Rattle.gedcom_export.specs.declared.index_owned.Owned.{Owned}
+use Rattle.gedcom_export.specs.declared.rank.Rank.{Rank}
+use Rattle.gedcom_export.specs.declared.rank.Rank.TheVariants as rank
 
 -- ---- what a record owns
 -- a citation, with nothing below it; of another record nothing

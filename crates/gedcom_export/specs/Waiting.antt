@@ -6,7 +6,7 @@ use Rattle.record_text.specs.declared.refusal.RefusalKind.{RefusalKind}
 use Rattle.gedcom_export.specs.Ends.{IsReason}
 use Rattle.gedcom_export.specs.declared.output.Output.{Output}
 
--- a text is put behind what waits, and of both a front is handed over, and counted
+-- a text is put after what waits, and of both a front is handed over, and counted
 pub record Moves (old new : Option (List ℕ)) (before after : Output) (added : List ℕ) : Type 0 where
   pub front : List ℕ
   pub taken : Appends old new front

@@ -3,11 +3,11 @@
 ghost use Rattle.std.specs.Prelude.{◌≡◌, [], false, MatchResult, OnOk, IfErr, string_bytes};
 ghost use Rattle.devices.specs.Devices.{Rose};
 ghost use Rattle.record_text.specs.declared.refusal.RefusalKind.TheVariants.{WriteFailed};
-ghost use Rattle.archive_view.specs.Looks.{is_failure};
+ghost use Rattle.archive_state.specs.Looks.{is_failure};
 ghost use Rattle.gedcom_export.specs.Waiting.{Halts, IsShort, Moves};
 
 use devices::{Device, TransferError, write_bytes};
-use records::RefusalKind;
+use record_text::RefusalKind;
 use std::alloc::Global;
 use std::io::Write;
 

@@ -4,15 +4,16 @@ ghost use Rattle.std.specs.Prelude.{◌≡◌, ◌++◌, ◌≤◌, OnOk, Some, 
 ghost use Rattle.std.specs.FinMap as maps;
 ghost use Rattle.record_kinds.specs.declared.record.Record.TheVariants as kind;
 ghost use Rattle.record_shapes.specs.Shapes.{citation_lines, events_below};
-ghost use Rattle.record_nodes.specs.Pages.{page};
-ghost use Rattle.export_index.specs.Index.{IsArranged};
-ghost use Rattle.export_index.specs.Shown.{around_in, names_in};
+ghost use Rattle.node_writing.specs.Pages.{page};
+ghost use Rattle.gedcom_export.specs.Index.{IsArranged};
+ghost use Rattle.gedcom_export.specs.Shown.{around_in, names_in};
 ghost use Rattle.gedcom_export.specs.Pieces.{alone, events_at, those_at, with_citations};
 
+use crate::index::Index;
+use crate::index_owned::Owned;
 use archive_state::State;
-use export_index::{Index, Owned};
 use node_writing::{push_carried, push_citation, push_event};
-use records::{Event, Record};
+use record_kinds::{Event, Record};
 use std::alloc::{AllocError, Global};
 
 /// Appends events, each with its citations.

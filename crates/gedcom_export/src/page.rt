@@ -3,20 +3,21 @@
 ghost use Rattle.std.specs.Prelude.{◌≡◌, ◌++◌, [], map, codes, OnOk, Some, option_copied, string_bytes};
 ghost use Rattle.record_kinds.specs.declared.record.Record.TheVariants as kind;
 ghost use Rattle.record_shapes.specs.Shapes.{shape_of, side_line};
-ghost use Rattle.record_nodes.specs.Pages.{page, record_page};
-ghost use Rattle.export_index.specs.Index.{IsArranged};
-ghost use Rattle.export_index.specs.Shown.{around_in, names_in};
-ghost use Rattle.export_index.specs.declared.membership.Membership as membership;
+ghost use Rattle.node_writing.specs.Pages.{page, record_page};
+ghost use Rattle.gedcom_export.specs.Index.{IsArranged};
+ghost use Rattle.gedcom_export.specs.Shown.{around_in, names_in};
+ghost use Rattle.gedcom_export.specs.declared.membership.Membership as membership;
 ghost use Rattle.gedcom_export.specs.Pieces.{text_at, text_of};
 
+use crate::index::Index;
+use crate::membership::Membership;
 use crate::owned::{push_citations, push_events};
 use archive_state::State;
-use export_index::{Index, Membership};
 use node_writing::{
     push_carried, push_entry, push_family, push_head, push_other_head, push_person, push_place,
     push_repo, push_side, push_source,
 };
-use records::{Entry, Family, Other, Person, Place, Record, Repo, Source};
+use record_kinds::{Entry, Family, Other, Person, Place, Record, Repo, Source};
 use std::alloc::{AllocError, Global};
 
 /// Appends the record of a number, with what it owns. An event or a citation has its lines below another record, so

@@ -2,12 +2,12 @@
 
 ghost use Rattle.std.specs.Prelude.{◌≡◌, OnOk};
 ghost use Rattle.std.specs.FinMap as map;
-ghost use Rattle.archive_view.specs.Looks.{CountsFailures, Looked, OnView};
+ghost use Rattle.archive_state.specs.Looks.{CountsFailures, Looked, OnView};
 ghost use Rattle.gedcom_export.specs.Kept as kept;
 
-use archive_state::State;
-use archive_view::View;
-use records::{Record, RefusalKind};
+use archive_state::{State, View};
+use record_kinds::Record;
+use record_text::RefusalKind;
 use std::alloc::{AllocError, Global};
 
 /// A state with the records that a view shows, each of which is read once, and with nothing else.

@@ -4,26 +4,27 @@ ghost use Rattle.std.specs.Prelude.{◌≡◌, true, false, None, MatchResult, O
 ghost use Rattle.devices.specs.Devices.{Rose};
 ghost use Rattle.gedcom_tree.specs.Text.{line_text, text, trailer};
 ghost use Rattle.record_text.specs.declared.refusal.RefusalKind.TheVariants.{WriteFailed};
-ghost use Rattle.record_nodes.specs.Header.{header};
-ghost use Rattle.record_nodes.specs.Pages.{nodes_text};
+ghost use Rattle.node_writing.specs.Header.{header};
+ghost use Rattle.node_writing.specs.Pages.{nodes_text};
 ghost use Rattle.archive_state.specs.Sound.{IsSound};
-ghost use Rattle.archive_view.specs.Looks.{CountsFailures, CountsStops, OnView, is_failure, is_stop};
-ghost use Rattle.export_forest.specs.Forest.{exported};
-ghost use Rattle.export_index.specs.Index.{IsArranged};
+ghost use Rattle.archive_state.specs.Looks.{CountsFailures, CountsStops, OnView, is_failure, is_stop};
+ghost use Rattle.gedcom_export.specs.Forest.{exported};
+ghost use Rattle.gedcom_export.specs.Index.{IsArranged};
 ghost use Rattle.gedcom_export.specs.Ends.{IsBegun, IsWhole};
 ghost use Rattle.gedcom_export.specs.Pieces as pieces;
 ghost use Rattle.gedcom_export.specs.Waiting.{Halts, IsShort, Moves};
 
+use crate::gathering::index_of;
+use crate::index::Index;
 use crate::output::{Output, hand_over, make_way};
 use crate::page::push_record;
+use crate::rank::Rank;
 use crate::reading::all_records;
-use archive_state::State;
-use archive_view::View;
+use archive_state::{State, View};
 use devices::Device;
-use export_index::{Index, Rank, index_of};
 use gedcom_line::write_line;
 use node_writing::push_header;
-use records::{Refusal, RefusalKind};
+use record_text::{Refusal, RefusalKind};
 use std::alloc::Global;
 use std::io::Write;
 
@@ -156,7 +157,7 @@ fn write_forest<W: Write + Device>(
     hand_over(writer, before, &mut out)
 }
 
-/// Puts the parts of the text behind each other: header, records, trailer.
+/// Puts the parts of the text after each other: header, records, trailer.
 fn write_parts<W: Write + Device>(
     alloc: Global,
     state: &State,

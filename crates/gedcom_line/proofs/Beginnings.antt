@@ -38,7 +38,7 @@ use Rattle.list_laws.proofs.Lists.{behind}
 pub begun_same : (old new more : List ℕ) → new ≡ old → Begun old new more
 begun_same old new more e = (0, (omega arith, e ∙ sym (append-nil old)))
 
--- and of what goes on behind it
+-- and of what goes on after it
 pub begun_longer : (old new a b : List ℕ) → Begun old new a → Begun old new (a ++ b)
 begun_longer old new a b h = (
   h.0,
@@ -49,7 +49,7 @@ begun_longer old new a b h = (
   ),
 )
 
--- a beginning of what goes on behind what is there
+-- a beginning of what goes on after what is there
 pub begun_behind : (old mid new a b : List ℕ) → mid ≡ old ++ a → Begun mid new b → Begun old new (a ++ b)
 begun_behind old mid new a b e h = (
   length a + h.0,
@@ -60,13 +60,13 @@ begun_behind old mid new a b e h = (
   ),
 )
 
--- a beginning of the part behind what is there, with more behind it
+-- a beginning of the part after what is there, with more after it
 pub begun_part : (old mid new a b c whole : List ℕ) → mid ≡ old ++ a → Begun mid new b → whole ≡ a ++ (b ++ c)
     → Begun old new whole
 begun_part old mid new a b c whole e h w = subst (Begun old new) (sym w)
     (begun_behind old mid new a (b ++ c) e (begun_longer mid new b c h))
 
--- what is left of a line behind each of its parts
+-- what is left of a line after each of its parts
 pub from_level : (d x t r : List ℕ) → (d ++ 32 ∷ (x ++ (t ++ r))) ++ 10 ∷ [] ≡ d
     ++ (32 ∷ [] ++ (x ++ (t ++ (r ++ 10 ∷ []))))
 from_level d x t r = simp append_assoc

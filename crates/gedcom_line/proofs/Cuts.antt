@@ -154,7 +154,7 @@ good_from s p g = rw (
   may_from s p g.may,
 ) refl
 
--- a segment that is too long may be cut behind its first character
+-- a segment that is too long may be cut after its first character
 first_char : (cs s : List ℕ) → encode_utf8_all cs ≡ s → 0 < length s → (c : ℕ)
     × ((rest : List ℕ) × (s ≡ encode_utf8 c ++ rest))
 first_char [] s e lt = absurd (omega (arith, ap length e))

@@ -97,7 +97,7 @@ unturn out front after rest whole parts none so_far =
 pub last_unturn : (out rest whole : List ℕ) → NoAt rest → out ++ unescaped rest ≡ whole → out ++ rest ≡ whole
 last_unturn out rest whole none so_far = ap (λ (x : List ℕ). out ++ x) (sym (unescaped_all rest none)) ∙ so_far
 
--- inside an escape the text goes on to an @ with a space behind it
+-- inside an escape the text goes on to an @ with a space after it
 abbrev pub Ends : Bool → List ℕ → Type 0
 Ends false cs = Unit {0}
 Ends true [] = ⊥

@@ -15,7 +15,7 @@ two_escapes = (
   ),
 )
 
--- the @ that might end an escape begins one, since no space stands behind it
+-- the @ that might end an escape begins one, since no space stands after it
 one_escape : Elements (codes "@#A@#B@ ") (Byte 64 ∷ Byte 35 ∷ Byte 65 ∷ Escape (codes "B") ∷ [])
 one_escape = (
   none_begins (codes "#A@#B@ ") refl,

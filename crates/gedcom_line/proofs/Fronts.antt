@@ -217,7 +217,7 @@ front_boundary b h le = grind (arith, nat_tests)
 pub front_whole : (n : ℕ) (t : List ℕ) → IsCharBoundary t (front_len n t)
 front_whole n t = (front_len-le-length n t, λ lt. front_boundary (get_or t (front_len n t) 0) (front_begins n t lt))
 
--- no part ends behind the first n characters
+-- no part ends after the first n characters
 abbrev pub Beyond : List ℕ → ℕ → Type 0
 Beyond s n = (p : ℕ) → front_len n s < p → p ≤ length s → is_short (take p s) ≡ false
 
@@ -243,7 +243,7 @@ beyond_less s n h long few so_far = λ p lt le. elim (cases_lt (front_len n s) p
   | inr close ↦ long_within s n h p long few lt le (omega arith)
 ]
 
--- half of what is too much goes off: that is something, less than what there is, and no part ends behind what is left
+-- half of what is too much goes off: that is something, less than what there is, and no part ends after what is left
 pub less_by_half : (s : List ℕ) (n over h : ℕ) → 0 < over → over ≡ char_count (escaped (take (front_len n s) s)) - 200
     → h ≡ div_ceil over 2 → Beyond s n → (0 < h) × (h < n) × Beyond s (n - h)
 less_by_half s n over h some e half so_far =

@@ -62,7 +62,7 @@ and_mid : (a b c : Bool) → b ≡ false → (a && b && c) ≡ false
 and_mid true b c h = rw h refl
 and_mid false b c h = refl
 
--- behind an @ there is no name that begins with a character that is none of a word
+-- after an @ there is no name that begins with a character that is none of a word
 not_name : (c : ℕ) (cs : List ℕ) → is_word c ≡ false → is_name (before_first is_at (c ∷ cs)) ≡ false
 not_name c cs h = elim
     (is_at c) as (λ v. is_name (take (cond (not v) (1 + position_or_len is_at cs) 0) (c ∷ cs)) ≡ false) [

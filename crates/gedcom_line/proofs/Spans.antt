@@ -47,7 +47,7 @@ in_class_ascii Digit b h = grind (arith, nat_tests)
 in_class_ascii Space b h = grind (arith, nat_tests)
 in_class_ascii Word b h = grind (arith, nat_tests)
 
--- the text may be cut behind the characters of a class
+-- the text may be cut after the characters of a class
 pub class_boundary : (k : Class) (bs : List ℕ) (n : ℕ) → IsUtf8 bs → n ≡ prefix_len (in_class k) bs
     → IsCharBoundary bs n
 class_boundary k bs zero u e = IsCharBoundary-start bs u

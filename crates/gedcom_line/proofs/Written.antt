@@ -72,7 +72,7 @@ all_parts p (x ∷ xs) b h =
     let k = all_parts p xs b r.1 in
     (rw (r.0, k.0) refl, k.1)
 
--- behind characters of a class
+-- after characters of a class
 utf8_behind_one : (x : ℕ) (t : List ℕ) → x < 128 → IsUtf8 (x ∷ t) → IsUtf8 t
 utf8_behind_one x t lt u = IsUtf8-past_char (x ∷ t) t x u (rw (encode_ascii x lt) refl)
 
@@ -85,7 +85,7 @@ utf8_behind k (x ∷ xs) t h u =
 inner_behind : (k : Class) (a t : List ℕ) → list_all (in_class k) a ≡ true → IsInner (a ++ t) → IsInner t
 inner_behind k a t h i = record { utf8 = utf8_behind k a t h i.utf8; each = (all_parts is_inner a t i.each).1 }
 
--- behind what a class spans
+-- after what a class spans
 inner_spanned : (k : Class) (text front rest : List ℕ) → Spans (in_class k) text front rest
     → IsInner text → IsInner rest
 inner_spanned k text front rest s i = inner_behind k front rest s.passes (subst IsInner s.parts i)

@@ -67,7 +67,7 @@ unescaped (c ∷ d ∷ cs) = if c == 64 && d == 64 then 64 ∷ unescaped cs else
 
 -- The same by computing.
 
--- the characters before the next @ are some, and a space stands behind it
+-- the characters before the next @ are some, and a space stands after it
 abbrev pub ends_escape : List ℕ → Bool
 ends_escape cs = nat_lt 0 (position_or_len is_at cs) && nat_lt (position_or_len is_at cs) (length cs) && is_some
     (past_char 32 (after_first is_at cs))

@@ -134,14 +134,14 @@ pub record IsTooHigh (b : List ℕ) : Type 0 where
   pub highest : line.level ≡ 99
   pub other : ¬ (IsContinuation line.tag)
 
--- behind the level stands an @ that begins no cross reference
+-- after the level stands an @ that begins no cross reference
 pub record LacksXref (b : List ℕ) : Type 0 where
   pub level : ℕ
   pub rest : List ℕ
   pub has_level : HasLevel b level rest
   pub none : (x : Option (List ℕ)) (last : List ℕ) → ¬ (HasXref rest x last)
 
--- behind the level, and a cross reference or none, stands no tag
+-- after the level, and a cross reference or none, stands no tag
 pub record LacksTag (b : List ℕ) : Type 0 where
   pub level : ℕ
   pub rest : List ℕ

@@ -77,7 +77,7 @@ abbrev pub ◌>>=◌ : {A B : Type 0} → Option A → (A → Option B) → Opti
 (Some x) >>= f = f x
 None >>= f = None
 
--- a level and the spaces behind it
+-- a level and the spaces after it
 unfoldable pub level_at : List ℕ → Option (ℕ × List ℕ)
 level_at t = do
   n ← number_of (take (prefix_len is_digit t) t)
@@ -88,7 +88,7 @@ level_at t = do
 abbrev pub is_name : List ℕ → Bool
 is_name name = is_word (slice_index name 0) && nat_le (length name) 62
 
--- behind the first @: a name, the second @ and the spaces behind it; t is all of it
+-- after the first @: a name, the second @ and the spaces after it; t is all of it
 abbrev pub named_at : List ℕ → List ℕ → Option (Option (List ℕ) × List ℕ)
 named_at t inner =
     if nat_lt (position_or_len is_at inner) (length inner) && is_name (before_first is_at inner)
@@ -97,11 +97,11 @@ named_at t inner =
       rest,
     )) else None
 
--- a cross reference and the spaces behind it, or nothing where the text begins otherwise
+-- a cross reference and the spaces after it, or nothing where the text begins otherwise
 unfoldable pub xref_at : List ℕ → Option (Option (List ℕ) × List ℕ)
 xref_at t = option_map_or (named_at t) (past_char 64 t) (Some (None, t))
 
--- nothing, or what stands behind one space
+-- nothing, or what stands after one space
 abbrev pub value_after : List ℕ → Option (List ℕ)
 value_after [] = Some []
 value_after (b ∷ bs) = past_char 32 (b ∷ bs)

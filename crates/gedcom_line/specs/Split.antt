@@ -56,7 +56,7 @@ front_len (suc n) (b ∷ bs) = 1 + front_len (if begins_char b then n else suc n
 abbrev pub IsShort : List ℕ → Type 0
 IsShort t = char_count (escaped t) ≤ 200
 
--- a part of a segment, as its first p bytes: whole characters, with others behind them, that have as they are written
+-- a part of a segment, as its first p bytes: whole characters, with others after them, that have as they are written
 -- at most 200 characters
 pub record MayCut (s : List ℕ) (p : ℕ) : Type 0 where
   pub some : 0 < p

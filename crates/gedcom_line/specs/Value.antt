@@ -55,7 +55,7 @@ pointer_from t = past_char 64 t >>= λ inner. pointer_at t inner
 unfoldable pub pointer_in : List ℕ → Option (List ℕ)
 pointer_in raw = pointer_from (skip is_space raw)
 
--- what a text behind a tag stands for, where it goes on with no value
+-- what a text after a tag stands for, where it goes on with no value
 abbrev pub meaning : List ℕ → Meaning
 meaning raw = option_map_or Pointer (pointer_in raw) (Text raw)
 

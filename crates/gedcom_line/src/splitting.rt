@@ -182,7 +182,7 @@ fn excess(segment: &str, chars: usize) -> usize
     written_count(&segment[..end]).saturating_sub(LONGEST)
 }
 
-/// A place behind which the segment may not be cut.
+/// A place after which the segment may not be cut.
 fn farthest(segment: &str) -> usize
     requires { short_test segment.now ≡ false }
     ensures within { result < length segment.now }

@@ -45,7 +45,7 @@ none_ended (x ∷ xs) h = elim (cases_Bool (is_end x)) [
       let k = none_ended xs (omega arith) in rw (e, k.0, k.1) (refl, refl)
 ]
 
--- one, behind its first n bytes
+-- one, after its first n bytes
 pub first_ended : (b : List ℕ) (n : ℕ) → n ≡ prefix_len (λ x. not (is_end x)) b → n < length b
     → ((pieces b).ended ≡ take n b ∷ (pieces (drop (n + 1) b)).ended)
     × ((pieces b).open_ ≡ (pieces (drop (n + 1) b)).open_)

@@ -1,4 +1,4 @@
--- The front of a file of at most so many bytes, and the byte behind it. Stated for any number of bytes.
+-- The front of a file of at most so many bytes, and the byte after it. Stated for any number of bytes.
 use Rattle.std.proofs.Common.{
   ◌≡◌,
   ℕ,
@@ -36,7 +36,7 @@ get_over [] c n = let e : 0 + n ≡ n = omega arith in ap (slice_get c) e
 get_over (x ∷ xs) c n = let e : length (x ∷ xs) + n ≡ suc (length xs + n) = omega arith in
     ap (slice_get (x ∷ (xs ++ c))) e ∙ get_over xs c n
 
--- behind bytes that are not too many
+-- after bytes that are not too many
 pub within-append : (a c : List ℕ) → length a ≤ max_file → within (a ++ c) ≡ a ++ take (max_file - length a) c
 unfolding within
 within-append a c h =

@@ -1,4 +1,4 @@
--- What stands open behind a line, as the code keeps it.
+-- What stands open after a line, as the code keeps it.
 use Rattle.std.proofs.Common.{
   ◌≡◌,
   ℕ,

@@ -5,7 +5,7 @@ use Rattle.std.specs.Str.{bytes_eq}
 use Rattle.gedcom_line.specs.Reading.{Parts, is_continuation}
 use Rattle.gedcom_line.specs.Escape.{unescaped}
 
--- Among the lines behind a line of the level, those that continue it: CONC and CONT one level below, up to the next
+-- Among the lines after a line of the level, those that continue it: CONC and CONT one level below, up to the next
 -- line that is not deeper.
 abbrev pub belongs : ℕ → List Parts → List Parts
 belongs level [] = []

@@ -1,4 +1,4 @@
--- How many lines stand open behind lines: one of each level down to that of the last one.
+-- How many lines stand open after lines: one of each level down to that of the last one.
 use Rattle.std.specs.Prelude.{ℕ, ◌+◌, ◌==◌, if◌then◌else◌}
 use Rattle.gedcom_rules.specs.Rules.{Progress}
 

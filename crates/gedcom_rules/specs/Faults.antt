@@ -48,7 +48,7 @@ max_line = 65536
 abbrev pub max_file : ℕ
 max_file = 67108864
 
--- The pieces, behind the lines before them, are blank or spell lines that break no rule; lines are those before and
+-- The pieces, after the lines before them, are blank or spell lines that break no rule; lines are those before and
 -- these.
 abbrev pub Clean : List Parts → List (List ℕ) → List Parts → Type 0
 Clean before [] lines = lines ≡ before
@@ -61,16 +61,16 @@ Clean before (p ∷ ps) lines =
 abbrev pub IsNoLine : List ℕ → TreeKind → Type 0
 IsNoLine p k = (j : LineKind) × (LineFaultIs p j × (k ≡ of_line j))
 
--- the piece is a line, and behind the lines before it this is the first rule that it breaks
+-- the piece is a line, and after the lines before it this is the first rule that it breaks
 abbrev pub BreaksFirst : List Parts → List ℕ → TreeKind → Type 0
 BreaksFirst before p k = (l : Parts) × (Line p l × (first_broken (progress_of before) l ≡ Some k))
 
--- what is wrong with a piece behind lines
+-- what is wrong with a piece after lines
 abbrev pub IsFaulty : List Parts → List ℕ → TreeKind → Type 0
 IsFaulty before p k = ((k ≡ TooLong) × (max_line < length p))
     ⊎ ((length p ≤ max_line) × (IsNoLine p k ⊎ BreaksFirst before p k))
 
--- What a piece is behind lines: blank, or a line that breaks no rule, or faulty for this reason first.
+-- What a piece is after lines: blank, or a line that breaks no rule, or faulty for this reason first.
 abbrev pub Judged : List Parts → List ℕ → Result (Option Parts) TreeKind → Type 0
 Judged before p (Ok None) = (length p ≤ max_line) × IsBlank p
 Judged before p (Ok (Some l)) = (length p ≤ max_line) × (Line p l × (first_broken (progress_of before) l ≡ None))
@@ -105,7 +105,7 @@ goes_on (Some b) = not (is_end b)
 abbrev pub overflows : List ℕ → Option ℕ → Bool
 overflows rest next = nat_lt max_line (length rest) || (length rest == max_line && goes_on next)
 
--- as many bytes as a file may have, and the byte behind them
+-- as many bytes as a file may have, and the byte after them
 unfoldable pub within : List ℕ → List ℕ
 within b = take max_file b
 

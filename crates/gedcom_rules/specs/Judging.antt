@@ -45,12 +45,12 @@ continue_at n l s =
       room = s.room - length (adds l);
     } else s
 
--- what stands open at a level behind a line
+-- what stands open at a level after a line
 abbrev pub above_after : (ℕ → Option Standing) → Parts → ℕ → Option Standing
 above_after above l n = if l.level == n then Some (standing l [])
     else (if nat_lt l.level n then None else option_map (continue_at n l) (above n))
 
--- what a line leaves, behind what the lines before it left
+-- what a line leaves, after what the lines before it left
 abbrev pub after : Progress → Parts → Progress
 after p l = record {
   count = p.count + 1;
@@ -78,11 +78,11 @@ judge_read p piece (Err k) = Err (of_line k)
 unfoldable pub judge : Progress → List ℕ → Result (Option Parts) TreeKind
 judge p piece = if nat_lt max_line (length piece) then Err TooLong else judge_read p piece (reading piece)
 
--- a fault of the line behind so many
+-- a fault of the line after so many
 abbrev pub fault_behind : ℕ → TreeKind → Fault
 fault_behind count k = record { kind = k; at = Some (count + 1) }
 
--- the fault of a file that ends behind lines without a trailer
+-- the fault of a file that ends after lines without a trailer
 abbrev pub unended : Progress → Fault
 unended p = fault_behind p.count (if p.count == 0 then NoHead else NoTrailer)
 

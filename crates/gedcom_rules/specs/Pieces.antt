@@ -13,7 +13,7 @@ abbrev pub onto_first : ℕ → List (List ℕ) → List ℕ → Pieces
 onto_first b [] rest = record { ended = []; open_ = b ∷ rest }
 onto_first b (p ∷ ps) rest = record { ended = (b ∷ p) ∷ ps; open_ = rest }
 
--- the pieces of bytes, put together from the last byte: a line end stands behind a new first piece, and any other
+-- the pieces of bytes, put together from the last byte: a line end stands after a new first piece, and any other
 -- character goes to the front of the first
 unfoldable pub pieces : List ℕ → Pieces
 pieces [] = record { ended = []; open_ = [] }

@@ -1,4 +1,4 @@
--- The rules of a file that a line keeps or breaks behind the lines before it, and which one it breaks first.
+-- The rules of a file that a line keeps or breaks after the lines before it, and which one it breaks first.
 --
 -- Level 0 HEAD first and level 0 TRLR last, a level at most one above that of the line before, CONC and CONT below the
 -- line that they continue, cross references that name one line: The GEDCOM Standard Release 5.5.1, chapter 1; the
@@ -77,7 +77,7 @@ is_trailer l = l.level == 0 && bytes_eq l.tag (codes "TRLR")
 abbrev pub max_text : ℕ
 max_text = 1048576
 
--- What lines leave for the line behind them.
+-- What lines leave for the line after them.
 
 -- what the rules know a tag by
 abbrev pub role_of : List ℕ → Role
@@ -107,7 +107,7 @@ standing l more = record {
   room = max_text - length (unescaped l.raw ++ flat_map adds more);
 }
 
--- among lines the one of the level with only deeper lines behind it
+-- among lines the one of the level with only deeper lines after it
 abbrev pub standing_at : ℕ → List Parts → Option Standing
 standing_at n [] = None
 standing_at n (l ∷ ls) = if l.level == n && list_all (λ m. nat_lt n m.level) ls then Some
@@ -129,7 +129,7 @@ last_level [] = 0
 last_level (l ∷ []) = l.level
 last_level (l ∷ m ∷ ls) = last_level (m ∷ ls)
 
--- no level 0 behind the first line
+-- no level 0 after the first line
 abbrev pub is_in_head : List Parts → Bool
 is_in_head [] = false
 is_in_head (l ∷ ls) = list_all (λ m. not (m.level == 0)) ls
@@ -231,7 +231,7 @@ abbrev pub order : List TreeKind
 order = AfterTrailer ∷ NoHead ∷ LevelJump ∷ ContinuationHasChildren ∷ BadContinuation ∷ DuplicateXref ∷ TextTooLong
     ∷ Charset ∷ Version ∷ []
 
--- the first rule that the line breaks, behind lines that leave p
+-- the first rule that the line breaks, after lines that leave p
 abbrev pub first_broken : Progress → Parts → Option TreeKind
 first_broken p l = find (breaks p l) order
 

@@ -25,7 +25,7 @@ fn overflows(rest: &[u8], next: Option<u8>) -> bool
     rest.len() > MAX_LINE || (rest.len() == MAX_LINE && goes_on)
 }
 
-/// What is decided where no piece that has ended is faulty, behind so many lines.
+/// What is decided where no piece that has ended is faulty, after so many lines.
 fn open_fault(count: u32, rest: &[u8], next: Option<u8>) -> Option<TreeFault>
     requires { count + 1 < 2 ^ 32 }
     ensures { (p : Progress) → p.count ≡ count → option_map fault_view result ≡ fault_of_open rest.now next (Ok p) }
@@ -43,7 +43,7 @@ fn open_fault(count: u32, rest: &[u8], next: Option<u8>) -> Option<TreeFault>
     })
 }
 
-/// Judges a line that has not ended behind the lines so far, where `next` is the first byte that is more than a
+/// Judges a line that has not ended after the lines so far, where `next` is the first byte that is more than a
 /// file may have. `TooLong`: the line is too long, or `next` makes it so. `FileTooLarge`: there is such a byte.
 pub fn judge_open(seen: &Seen, rest: &[u8], next: Option<u8>) -> Result<(), TreeFault>
     requires { (progress seen.now).count + 1 < 2 ^ 32 }
@@ -56,7 +56,7 @@ pub fn judge_open(seen: &Seen, rest: &[u8], next: Option<u8>) -> Result<(), Tree
     }
 }
 
-/// The fault of a line behind those so far that is longer than a line may be.
+/// The fault of a line after those so far that is longer than a line may be.
 pub fn too_long(seen: &Seen) -> TreeFault
     requires { (progress seen.now).count + 1 < 2 ^ 32 }
     ensures { fault_view result ≡ fault_behind (progress seen.now).count TreeKind.TooLong }
@@ -67,7 +67,7 @@ pub fn too_long(seen: &Seen) -> TreeFault
     }
 }
 
-/// The end of the input behind the lines so far. `NoHead`: there is no line. `NoTrailer`: there are some, and
+/// The end of the input after the lines so far. `NoHead`: there is no line. `NoTrailer`: there are some, and
 /// the last is not the trailer.
 pub fn judge_end(seen: &Seen) -> Result<(), TreeFault>
     requires { (progress seen.now).count + 1 < 2 ^ 32 }

@@ -31,7 +31,7 @@ pub enum TreeKind {
     NoHead,
     /// The input ends without level 0 TRLR.
     NoTrailer,
-    /// A line behind the trailer.
+    /// A line after the trailer.
     AfterTrailer,
     /// CONC or CONT where no text can go on.
     BadContinuation,

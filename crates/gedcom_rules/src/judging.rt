@@ -79,7 +79,7 @@ fn is_continued(above: Option<Standing>) -> bool
     }
 }
 
-/// The first rule that the line breaks, behind the lines so far. Nothing is added to them.
+/// The first rule that the line breaks, after the lines so far. Nothing is added to them.
 pub fn first_broken(seen: &Seen, line: &LineRef<'_>) -> Option<TreeKind>
     ensures { result ≡ broken_first (progress seen.now) (parts line.now) }
 {
@@ -127,7 +127,7 @@ fn is_too_long(piece: &[u8]) -> bool
     piece.len() > MAX_LINE
 }
 
-/// Judges a piece behind the lines so far: nothing where it is blank, else its line.
+/// Judges a piece after the lines so far: nothing where it is blank, else its line.
 #[tactic(auto, unfolding(crate::specs::Judging::judge))]
 fn judge<'a>(seen: &Seen, piece: &'a [u8]) -> Result<Option<LineRef<'a>>, TreeKind>
     requires { IsPiece piece.now }
@@ -147,7 +147,7 @@ fn judge<'a>(seen: &Seen, piece: &'a [u8]) -> Result<Option<LineRef<'a>>, TreeKi
     }
 }
 
-/// Judges a piece behind the lines so far, and adds its line to them: the line with its number, counted from 1,
+/// Judges a piece after the lines so far, and adds its line to them: the line with its number, counted from 1,
 /// or none where the piece is blank.
 ///
 /// A fault of the piece is the first of its rules that it breaks, and has its line. `OutOfMemory`, without a

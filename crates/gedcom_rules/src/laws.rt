@@ -10,7 +10,7 @@ ghost use Rattle.gedcom_rules.specs.Judging.{after, judge, start};
 ghost use Rattle.gedcom_rules.specs.Refusals.{number_of};
 ghost use Rattle.gedcom_rules.specs.Rules.{of_line, progress_of};
 
-/// What `judge_piece` computes is what the definitions say: behind lines, which leave what was computed of
+/// What `judge_piece` computes is what the definitions say: after lines, which leave what was computed of
 /// them, a piece is blank, or a line that breaks no rule, or faulty for that reason first.
 pub fn judging_is_as_defined()
     ensures none { start ≡ progress_of [] }

@@ -174,7 +174,7 @@ impl Seen {
         self.stack.len()
     }
 
-    /// Adds a line behind these, whichever rules it breaks: the callers that read on behind a faulty line decide what
+    /// Adds a line after these, whichever rules it breaks: the callers that read on after a faulty line decide what
     /// it counts as.
     pub fn count_line(&mut self, alloc: Global, line: &LineRef<'_>) -> Result<(), AllocError>
         requires count { (progress self.old).count + 1 < 2 ^ 32 }
@@ -186,7 +186,7 @@ impl Seen {
         self.add(alloc, line)
     }
 
-    /// Adds a line behind these.
+    /// Adds a line after these.
     pub(crate) fn add(&mut self, alloc: Global, line: &LineRef<'_>) -> Result<(), AllocError>
         requires count { self.old.count + 1 < 2 ^ 32 }
         requires level { line.now.level ≤ length self.old.stack.items }

@@ -1,9 +1,9 @@
 //! Rows of batches that are read, and that are refused; over a reader of seven bytes a call, and one that fails.
 
 use crate::transfers::{Faulty, NEVER};
-use batch_reading::read_entries;
 use devices::Counted;
 use record_text::{Refusal, RefusalKind};
+use request_csv::read_entries;
 use std::alloc::Global;
 
 const BAPTISM: &str = "BAPTISM,f. 3,1,15 APR 1699/00,,John,child,John,father,Tom Lee\n";

@@ -103,7 +103,7 @@ grown_some : (q : Progress) (p : List ℕ) (l : Parts) (g : Nodes) → judge q p
 unfolding grow
 grown_some q p l g h = sym (ap (grow_read g) (judge_some q p l h).0)
 
--- the nodes behind a blank piece, and behind a line
+-- the nodes after a blank piece, and after a line
 pub grown_blank : (q r : Progress) (p : List ℕ) (n m : ℕ) (items : List Item) → judge q p ≡ Ok None → r ≡ q
     → q.count ≡ n → r.count ≡ m → record { count = m; items = items } ≡ grow (record { count = n; items = items }) p
 grown_blank q r p n m items h e a b =

@@ -82,7 +82,7 @@ use Rattle.gedcom_tree.proofs.Kept.{
 }
 use Rattle.gedcom_tree.proofs.Continued.{keeps_line, more_keeps}
 
--- what keeps_header says of the first node, there and behind its own line
+-- what keeps_header says of the first node, there and after its own line
 guarded : (a b : Bool) → not (a && not b) ≡ true → a ≡ true → b ≡ true
 guarded true true h e = refl
 guarded true false h e = absurd cc
@@ -118,7 +118,7 @@ heads_after h u i a = record {
       a.version (rw (f.0, d.1, c.1, under) refl);
 }
 
--- the trailer, and the nodes behind others
+-- the trailer, and the nodes after others
 pub trailer_written : Written trailer
 trailer_written = record {
   line = record {

@@ -1,4 +1,4 @@
--- Pieces behind pieces: where they lead, and what they are blamed for.
+-- Pieces after pieces: where they lead, and what they are blamed for.
 use Rattle.std.proofs.Common.{◌≡◌, ℕ, ◌<◌, List, [], ◌∷◌, ◌++◌, length, sym, ap, ◌∙◌, Option, Some, Err}
 use Rattle.gedcom_rules.specs.declared.fault.TreeKind.TheVariants.{TooLong}
 use Rattle.gedcom_rules.specs.Faults.{Fault, max_line}
@@ -39,7 +39,7 @@ pub refuses_long : (s : Lines) (p : List ℕ) (f : Fault) → IsSound s → (f �
     × (max_line < length p) → trace_run (trace_view s) (p ∷ []) ≡ Err f
 refuses_long s p f h k = run_long (progress s.seen) _ p f h.traced k.0 k.1
 
--- what is open behind the pieces is too long
+-- what is open after the pieces is too long
 pub blames_open : (s new : Lines) (ps : List (List ℕ)) (rest : List ℕ) (f : Fault) (next : Option ℕ) → Leads s new ps
     → (f ≡ fault_behind (progress new.seen).count TooLong) × (max_line < length rest)
     → open_fault rest next (traced (trace_run (trace_view s) ps)) ≡ Some f

@@ -135,7 +135,7 @@ closed_none n q (l ∷ ls) s c a m f = elim (cases_Bool (ltb n l.level)) [
   ]
 ]
 
--- behind a line that may not go on itself
+-- after a line that may not go on itself
 own_none : (q : Progress) (l : Parts) (ls : List Parts) → Fits (after q l) ls
     → may_go_on (after q l) l.level (standing l []) ≡ false → belongs l.level ls ≡ []
 own_none q l ls f m = closed_none l.level (after q l) ls (standing l []) (counted q.count) (above_own q l) m f

@@ -51,7 +51,7 @@ use Rattle.gedcom_tree.proofs.Alone.{charset_again, version_again}
 use Rattle.gedcom_tree.proofs.Roles.{own_role}
 use Rattle.gedcom_tree.proofs.Kept.{Stands, part_stands, text_of, part_top, Heads, set_is, version_is, part_unbroken}
 
--- a line that breaks no rule, and those behind it
+-- a line that breaks no rule, and those after it
 pub keeps_line : (q : Progress) (l : Parts) (ls : List Parts) → Written l → Unbroken q l → Keeps (after q l) ls
     → Keeps q (l ∷ ls)
 keeps_line q l ls w u k = (w.line, (written_fits l w, (unbroken_none q l u, k)))

@@ -120,7 +120,7 @@ decided_behind : (a c : List ℕ) → length a ≤ max_file → decided (a ++ c)
     (reader_of (a ++ take (max_file - length a) c)) (slice_get c (max_file - length a))
 decided_behind a c s = decided_of (a ++ c) ∙ rw (within-append a c s, extra-append a c s) refl
 
--- what contracts see of a reader's fields behind more bytes
+-- what contracts see of a reader's fields after more bytes
 
 -- the line that has not ended with more bytes
 abbrev pub going : List ℕ → ℕ → List ℕ → List ℕ

@@ -1,4 +1,4 @@
--- What the lines in front of the trailer keep, each behind those before it.
+-- What the lines in front of the trailer keep, each after those before it.
 use Rattle.std.proofs.Common.{
   ◌≡◌,
   ℕ,
@@ -49,7 +49,7 @@ use Rattle.gedcom_rules.proofs.Runs.{progress-push}
 use Rattle.gedcom_rules.proofs.Unbroken.{Unbroken, unbroken}
 use Rattle.gedcom_tree.proofs.Trailed.{untrailed_cons, untrailed_trailer}
 
--- a line that is not the trailer, behind what the lines before it left
+-- a line that is not the trailer, after what the lines before it left
 pub record Fit (q : Progress) (l : Parts) : Type 0 where
   pub line : IsLine l
   pub size : length l.raw ≤ max_line
@@ -121,7 +121,7 @@ clean_fits before (p ∷ ps) lines (s, inr h) =
       ),
     )
 
--- what stands open behind a line
+-- what stands open after a line
 pub above_own : (q : Progress) (l : Parts) → (after q l).above l.level ≡ Some (standing l [])
 above_own q l =
     let e : eqb l.level l.level ≡ true = eq-eqb l.level l.level refl in

@@ -1,4 +1,4 @@
--- What the lines of nodes leave for the nodes behind them, and which rules the lines of a node keep there.
+-- What the lines of nodes leave for the nodes after them, and which rules the lines of a node keep there.
 use Rattle.std.proofs.Common.{
   ◌≡◌,
   ℕ,
@@ -112,7 +112,7 @@ pub role_at : (f : Role → Bool) (above : ℕ → Option Standing) (l : Parts) 
     → option_map_or (λ s. f s.role) (above_after above l n) false ≡ f (role_of l.tag)
 role_at f above l n h = rw (eq-eqb l.level n h) refl
 
--- a name of a node does not stand on those behind it
+-- a name of a node does not stand on those after it
 pub name_apart : (o : Option (List ℕ)) (is : List Item) (x : List ℕ)
     → option_map_or (λ y. list_any (is_called y) is) o false ≡ false → list_any (is_called x) is ≡ true
     → option_map_or (bytes_eq x) o false ≡ false
@@ -125,7 +125,7 @@ name_apart (Some y) is x h k = elim (cases_Bool (bytes_eq x y)) [
       absurd cc
 ]
 
--- behind the own line of a node
+-- after the own line of a node
 abbrev pub head_after : Bool → Item → Bool
 head_after h i = h && not (eqb i.level 0)
 
@@ -166,7 +166,7 @@ own_stands q level h u i is s n rise apart = record {
   gedcom = λ ge hh. gedcom_own q level h u i is s n.own rise ge (and_parts h (not (eqb i.level 0)) hh).0;
 }
 
--- behind a continuation
+-- after a continuation
 pub part_stands : (q : Progress) (level : ℕ) (h u : Bool) (is : List Item) (p : Part) → Stands q level h u is
     → Stands (after q (part_line (level + 1) p)) level h u is
 part_stands q level h u is p s = record {

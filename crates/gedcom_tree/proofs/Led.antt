@@ -191,7 +191,7 @@ pub refused_one : (q : Progress) (names : List (List ℕ)) (p : List ℕ) (f : F
     → advance q (judge q p) ≡ Err f → trace_run (trace_of q names) (p ∷ []) ≡ Err f
 refused_one q names p f h e = run_one (trace_of q names) q p (Err f) h (fault_of_step q names (judge q p) f e)
 
--- pieces behind pieces
+-- pieces after pieces
 pub run_on : (t u : Trace) (xs ys : List (List ℕ)) → trace_run t xs ≡ Ok u → trace_run t (xs ++ ys) ≡ trace_run u ys
 run_on t u xs ys h = trace_run-append t xs ys ∙ ap (then_trace (λ v. trace_run v ys)) h
 

@@ -38,7 +38,7 @@ use Rattle.gedcom_rules.specs.Judging.{after}
 use Rattle.gedcom_tree.specs.Text.{line_text, trailer, node_text, text}
 use Rattle.gedcom_rules.proofs.Runs.{progress-push}
 
--- each line is one of the grammar, not too long, and breaks no rule behind those before it
+-- each line is one of the grammar, not too long, and breaks no rule after those before it
 abbrev pub Keeps : Progress → List Parts → Type 0
 Keeps q [] = Unit {0}
 Keeps q (l ∷ ls) = IsLine l × ((length (spelling l) ≤ max_line) × ((first_broken q l ≡ None) × Keeps (after q l) ls))

@@ -36,7 +36,7 @@ use Rattle.gedcom_rules.proofs.Unbroken.{Unbroken}
 use Rattle.gedcom_tree.proofs.Fitting.{Fits, above_own, parent_at}
 use Rattle.list_laws.proofs.Bytes.{bytes_same}
 
--- behind a node of the level k and its continuations the last line is no deeper than the node, or a continuation below
+-- after a node of the level k and its continuations the last line is no deeper than the node, or a continuation below
 -- it
 abbrev pub Behind : Progress → ℕ → Type 0
 Behind q k = (q.last ≤ k)

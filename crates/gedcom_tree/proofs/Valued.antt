@@ -82,7 +82,7 @@ past_front (x ∷ xs) rest n a b =
     let e : eqb x 64 ≡ false = eqb_false x 64 (n 0 (omega arith)) in
     rw e a
 
--- both as a value begins, and behind an @
+-- both as a value begins, and after an @
 chars_utf8 : (cs : List ℕ) → all_scalars cs ≡ true → IsUtf8 (unescaped (encode_utf8_all cs))
     × IsUtf8 (unescaped (past_pair (encode_utf8_all cs)))
 chars_utf8 [] h = (IsUtf8-nil, IsUtf8-nil)
@@ -171,7 +171,7 @@ more_textual n q (l ∷ ls) f =
       ]
     ]
 
--- a cross reference in a value: behind what stands in front of an @
+-- a cross reference in a value: after what stands in front of an @
 behind_inner : (front t : List ℕ) → IsInner (front ++ 64 ∷ t) → IsInner (64 ∷ t)
 behind_inner front t i =
     let whole : List ℕ = front ++ 64 ∷ t in

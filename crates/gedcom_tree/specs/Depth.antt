@@ -1,4 +1,4 @@
--- How many nodes stand open behind lines: one of each level down to that of the last one.
+-- How many nodes stand open after lines: one of each level down to that of the last one.
 use Rattle.std.specs.Prelude.{◌≡◌, ℕ, ◌+◌, ◌==◌, false, if◌then◌else◌}
 use Rattle.std.specs.Option.{option_map_or}
 use Rattle.gedcom_rules.specs.Rules.{Progress, is_continued}

@@ -12,7 +12,7 @@ abbrev pub untrailed : List Parts → List Parts
 untrailed ls = take_while (λ l. not (is_trailer l)) ls
 
 -- The bytes read as the forest: they are not too many, their pieces are blank or spell lines that break no rule, the
--- trailer is among these (it is the last, since no line stands behind it), and those in front of it are the forest's.
+-- trailer is among these (it is the last, since no line stands after it), and those in front of it are the forest's.
 pub record ReadsFile (b : List ℕ) (f : List Item) : Type 0 where
   pub size : length b ≤ max_file
   pub lines : List Parts

@@ -81,7 +81,7 @@ forest_of n (l ∷ ls) = if is_continuation l.tag then forest_of (n + 1) ls else
 
 -- One line more.
 
--- the bytes behind a text; a pointer stays as it is
+-- the bytes after a text; a pointer stays as it is
 abbrev pub longer : List ℕ → Meaning → Meaning
 longer t (Text s) = Text (s ++ t)
 longer t (Pointer p) = Pointer p
@@ -90,7 +90,7 @@ longer t (Pointer p) = Pointer p
 abbrev pub longer_node : List ℕ → Item → Item
 longer_node t i = record { line = i.line; level = i.level; xref = i.xref; tag = i.tag; value = longer t i.value }
 
--- the text of the last node of the level gets longer, where only deeper ones stand behind it
+-- the text of the last node of the level gets longer, where only deeper ones stand after it
 abbrev pub extended : ℕ → List ℕ → List Item → List Item
 extended n t [] = []
 extended n t (i ∷ is) = (if i.level == n && list_all (λ j. nat_lt n j.level) is then longer_node t i else i)

@@ -150,7 +150,7 @@ reader_of b = record {
   answer = None;
 }
 
--- the end of the input, behind the last piece
+-- the end of the input, after the last piece
 abbrev pub ended : List Item → Result Progress Fault → Result (List Item) Fault
 ended items (Err f) = Err f
 ended items (Ok p) = if p.done then Ok items else Err (unended p)

@@ -77,7 +77,7 @@ abbrev pub begins : List Item → Bool
 begins [] = false
 begins (i ∷ is) = i.level == 0 && bytes_eq i.tag (codes "HEAD")
 
--- behind a node of the level, no level is more than one above that of the node before
+-- after a node of the level, no level is more than one above that of the node before
 abbrev pub rises : ℕ → List Item → Bool
 rises level [] = true
 rises level (i ∷ is) = nat_le i.level (level + 1) && rises i.level is
@@ -122,7 +122,7 @@ pub record IsForest (f : List Item) : Type 0 where
   pub names : are_distinct f ≡ true
   pub header : keeps_header true false (behind_first f) ≡ true
 
--- how many nodes of level 0 a forest has behind the header
+-- how many nodes of level 0 a forest has after the header
 abbrev pub record_count : List Item → ℕ
 record_count f = count_by (λ i. i.level == 0) (behind_first f)
 

@@ -85,7 +85,7 @@ fn add_line(
     }
 }
 
-/// Judges a piece behind the lines so far, and adds its node.
+/// Judges a piece after the lines so far, and adds its node.
 fn add_piece(
     alloc: Global,
     growing: &mut Growing,
@@ -131,7 +131,7 @@ impl Lines {
         }
     }
 
-    /// Judges a piece behind the lines so far, and adds its line.
+    /// Judges a piece after the lines so far, and adds its line.
     pub(crate) fn add(&mut self, alloc: Global, piece: &[u8]) -> Result<(), TreeFault>
         requires piece { IsPiece piece.now }
         requires count { (progress self.old.seen).count + 1 < 2 ^ 32 }

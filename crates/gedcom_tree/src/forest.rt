@@ -6,7 +6,7 @@ ghost use Rattle.gedcom_tree.specs.Flat.{flats};
 use crate::node::Node;
 use std::marker::Model;
 
-/// The nodes of a file: level 0 HEAD first, then what stands behind it, without the trailer.
+/// The nodes of a file: level 0 HEAD first, then what stands after it, without the trailer.
 ///
 /// Contracts see it as the list of its nodes in order, with their depths.
 #[derive(Debug, Drop)]

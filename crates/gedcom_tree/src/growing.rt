@@ -71,7 +71,7 @@ impl Growing {
         Ok(())
     }
 
-    /// Adds the node of a line behind the others.
+    /// Adds the node of a line after the others.
     pub(crate) fn add(&mut self, level: usize, node: Node) -> Result<(), AllocError>
         requires level { level ≤ length self.old.path.items }
         requires leaf { (out-Node node).children.items ≡ [] }

@@ -20,9 +20,7 @@ mod reader;
 mod tag;
 mod writing;
 
-pub use devices::{Counted, Device, TransferError, has_risen, read_up_to, write_bytes};
 pub use forest::Forest;
-pub use gedcom_rules::{TreeFault, TreeKind};
 pub use node::{Node, NodeValue};
 pub use normal::{normalise, read_forest};
 pub use reader::TreeReader;

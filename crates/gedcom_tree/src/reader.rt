@@ -121,7 +121,7 @@ fn go_on(
     }
 }
 
-/// Adds the bytes behind those so far: each line that ends, and what follows.
+/// Adds the bytes after those so far: each line that ends, and what follows.
 fn take_bytes(
     alloc: Global,
     lines: &mut Lines,
@@ -149,7 +149,7 @@ fn take_bytes(
     }
 }
 
-/// So many of the bytes, and the byte behind them.
+/// So many of the bytes, and the byte after them.
 fn limited(bytes: &[u8], room: usize) -> (&[u8], Option<u8>)
     ensures front { result.0.now ≡ take room bytes.now }
     ensures next { result.1 ≡ slice_get bytes.now room }
@@ -158,7 +158,7 @@ fn limited(bytes: &[u8], room: usize) -> (&[u8], Option<u8>)
     (&bytes[..room.min(bytes.len())], bytes.get(room).copied())
 }
 
-/// Adds the piece behind the bytes so far.
+/// Adds the piece after the bytes so far.
 fn add(
     alloc: Global,
     lines: &mut Lines,

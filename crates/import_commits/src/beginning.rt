@@ -63,7 +63,7 @@ fn next_batch<S: Alter>(alloc: Global, conn: &mut Connection<S>) -> Result<u32, 
     Ok(next)
 }
 
-/// The number behind these batches. Storage: one is open, or there is no further number.
+/// The number after these batches. Storage: one is open, or there is no further number.
 fn batch_behind(batches: &[BatchRow]) -> Result<u32, RefusalKind>
     ensures unused { IfOk result (λ next. list_any (λ (b : BatchRow). b.no == next) batches.now ≡ false) }
     ensures closed { OnOk result (list_any (λ (b : BatchRow). b.is_open) batches.now ≡ false) }
@@ -76,7 +76,7 @@ fn batch_behind(batches: &[BatchRow]) -> Result<u32, RefusalKind>
     Ok(next)
 }
 
-/// The number behind the last of these batches, which are in order.
+/// The number after the last of these batches, which are in order.
 fn one_behind(batches: &[BatchRow]) -> Result<u32, RefusalKind>
     ensures refused { IfErr result (λ kind. kind ≡ Storage) }
 {

@@ -85,7 +85,7 @@ more_behind (y ∷ xs) x = let more : length (xs ++ (x ∷ [])) ≡ length xs + 
     moved : (n : ℕ) → suc (n + 1) ≡ suc n + 1
     moved n = omega arith
 
--- none is left behind the last
+-- none is left after the last
 pub none_left : {A : Type 0} (xs : List A) (i : ℕ) → length xs ≤ i → drop i xs ≡ []
 none_left xs i h = drop_of_length-le xs h
 
@@ -96,7 +96,7 @@ at_end (p ∷ pre) x ys = at_end pre x ys
 pub from_here : {A : Type 0} (xs : List A) (i : ℕ) (d : A) → i < length xs → drop i xs ≡ get_or xs i d ∷ drop (i + 1) xs
 from_here xs i d less = drop-cons xs i d less ∙ ap (λ k. get_or xs i d ∷ drop k xs) (sym (add-one i))
 
--- a text that is behind another one
+-- a text that is after another one
 pub behind : (old mid new a b : List ℕ) → mid ≡ old ++ a → new ≡ mid ++ b → new ≡ old ++ (a ++ b)
 behind old mid new a b e f = f ∙ ap (λ (x : List ℕ). x ++ b) e ∙ append_assoc old a b
 

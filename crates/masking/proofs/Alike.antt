@@ -6,7 +6,7 @@ use Rattle.std.specs.FinMap.{get}
 use Rattle.record_kinds.specs.Model as model
 use Rattle.record_kinds.specs.declared.record.Record.{Record}
 use Rattle.record_kinds.specs.declared.record.Record.TheVariants as kind
-use Rattle.record_links.specs.Links.{a_cited, is_wanted}
+use Rattle.archive_state.specs.Links.{a_cited, is_wanted}
 use Rattle.archive_state.specs.Content.{Content}
 use Rattle.archive_state.specs.Sound.{IsSound}
 use Rattle.archive_state.proofs.Keeping.{stands_as}

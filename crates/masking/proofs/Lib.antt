@@ -5,3 +5,10 @@ pub mod Lists
 pub mod Named
 pub mod Ruled
 pub mod Whole
+pub mod Adding
+pub mod Told
+pub mod Ended
+pub mod Life
+pub mod Judging
+pub mod Among
+pub mod Made

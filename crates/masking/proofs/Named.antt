@@ -6,7 +6,7 @@ use Rattle.std.specs.FinMap.{get}
 use Rattle.record_kinds.specs.Model as model
 use Rattle.record_kinds.specs.declared.record.Record.{Record}
 use Rattle.record_kinds.specs.declared.record.Record.TheVariants as kind
-use Rattle.record_links.specs.Links.{
+use Rattle.archive_state.specs.Links.{
   Wanted,
   a_place,
   a_repo,

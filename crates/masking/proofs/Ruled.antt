@@ -11,8 +11,8 @@ use Rattle.record_kinds.specs.declared.record.Record.{Record}
 use Rattle.record_kinds.specs.declared.record.Record.TheVariants as kind
 use Rattle.record_text.specs.Text.{IsText}
 use Rattle.stored_lines.specs.Line.{Lines}
-use Rattle.record_links.specs.Links.{links}
-use Rattle.record_links.specs.Carried.{carried_tags, tags}
+use Rattle.archive_state.specs.Links.{links}
+use Rattle.archive_state.specs.Carried.{carried_tags, tags}
 use Rattle.record_shapes.specs.Forms.{Known}
 use Rattle.record_shapes.specs.Levels.{AreWithin, HasRoom, room_below}
 use Rattle.record_shapes.specs.Lists.{EachOf, IsOnce}

@@ -6,7 +6,7 @@ use Rattle.std.specs.FinMap.{get}
 use Rattle.record_kinds.specs.Model as model
 use Rattle.record_kinds.specs.declared.record.Record.{Record}
 use Rattle.record_kinds.specs.declared.record.Record.TheVariants as kind
-use Rattle.record_links.specs.Carried.{carried, place_line_carried}
+use Rattle.archive_state.specs.Carried.{carried, place_line_carried}
 use Rattle.stored_lines.specs.Line.{Lines}
 use Rattle.archive_state.specs.Content.{Content}
 use Rattle.archive_state.specs.Sound.{EachIn}

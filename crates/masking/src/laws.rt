@@ -4,7 +4,7 @@ ghost use Rattle.std.specs.Prelude.{◌≡◌, ℕ, ℤ, [], map, true, Some, No
 ghost use Rattle.std.specs.FinMap.{get};
 ghost use Rattle.record_kinds.specs.Model as model;
 ghost use Rattle.record_kinds.specs.declared.record.Record.TheVariants as kind;
-ghost use Rattle.record_links.specs.Carried.{carried};
+ghost use Rattle.archive_state.specs.Carried.{carried};
 ghost use Rattle.archive_state.specs.Content.{Content};
 ghost use Rattle.archive_state.specs.Sound.{EachIn, IsSound};
 ghost use Rattle.masking.specs.Life.{IsDead, IsLiving, IsPersonAt, is_partner};

@@ -31,10 +31,10 @@ use Rattle.gedcom_line.specs.Spelling.{spelling}
 use Rattle.record_shapes.specs.Shapes.{line, pointer_line}
 use Rattle.gedcom_tree.specs.Text.{node_text}
 use Rattle.gedcom_line.specs.Value.{Pointer}
-use Rattle.record_nodes.specs.Header.{leaf}
-use Rattle.record_nodes.specs.Nodes.{Mark, item_at, mark_of}
-use Rattle.record_nodes.specs.Pages.{nodes_text, page, record_page}
-use Rattle.record_nodes.proofs.Pages.{
+use Rattle.node_writing.specs.Header.{leaf}
+use Rattle.node_writing.specs.Nodes.{Mark, item_at, mark_of}
+use Rattle.node_writing.specs.Pages.{nodes_text, page, record_page}
+use Rattle.node_writing.proofs.Pages.{
   nodes-append,
   nodes-bare,
   nodes-below,

@@ -27,8 +27,8 @@ use Rattle.record_shapes.specs.Shapes.{
   side_line,
   text_lines,
 }
-use Rattle.record_nodes.specs.Pages.{page, record_page}
-use Rattle.record_nodes.proofs.Pages.{page-append, page-below, record-below}
+use Rattle.node_writing.specs.Pages.{page, record_page}
+use Rattle.node_writing.proofs.Pages.{page-append, page-below, record-below}
 use Rattle.node_writing.specs.Parts.{event_head, family_head, person_head}
 
 module _ (names : ℕ → List ℕ) where

@@ -25,7 +25,7 @@ ghost use Rattle.record_shapes.specs.Shapes.{
   role_lines,
   text_lines,
 };
-ghost use Rattle.record_nodes.specs.Pages.{page};
+ghost use Rattle.node_writing.specs.Pages.{page};
 ghost use Rattle.node_writing.specs.Parts.{event_head};
 
 use crate::lines::{push_carried, push_maybe, push_pointer, push_words};
@@ -184,7 +184,7 @@ fn push_participants<N: Named>(
 }
 
 /// Appends an event at level 1 up to its citations (GEDCOM 5.5.1, chapter 2, EVENT_DETAIL). What is carried by the
-/// event stands behind these, at level 2.
+/// event stands after these, at level 2.
 pub fn push_event<N: Named>(
     alloc: Global,
     out: &mut String,

@@ -2,7 +2,7 @@
 
 ghost use Rattle.std.specs.Prelude.{◌≡◌, ◌++◌, ◌∷◌, [], map, OnOk, string_bytes};
 ghost use Rattle.record_shapes.specs.Shapes.{child_line, partner_line, partner_tag as tag_of_partnership};
-ghost use Rattle.record_nodes.specs.Pages.{page};
+ghost use Rattle.node_writing.specs.Pages.{page};
 ghost use Rattle.node_writing.specs.Parts.{family_head};
 
 use crate::lines::{push_carried, push_pointer};

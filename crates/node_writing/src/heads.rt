@@ -4,8 +4,8 @@ ghost use Rattle.std.specs.Prelude.{◌≡◌, ◌++◌, ◌≤◌, ◌∷◌, [
 ghost use Rattle.gedcom_line.specs.Value.{Text};
 ghost use Rattle.record_shapes.specs.Shapes.{line};
 ghost use Rattle.stored_lines.specs.declared.carried.Value.TheVariants as value;
-ghost use Rattle.record_nodes.specs.Header.{file_head, form_lines, header, leaf, submitter};
-ghost use Rattle.record_nodes.specs.Pages.{nodes_text, record_page};
+ghost use Rattle.node_writing.specs.Header.{file_head, form_lines, header, leaf, submitter};
+ghost use Rattle.node_writing.specs.Pages.{nodes_text, record_page};
 
 use crate::named::Named;
 use gedcom_line::write_line;

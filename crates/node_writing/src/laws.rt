@@ -1,22 +1,46 @@
+//! What holds of the text of lines.
+//!
 //! What holds between the texts that are appended and the whole text of a record.
 
-ghost use Rattle.std.specs.Prelude.{◌≡◌, ℕ, ◌++◌, ◌∷◌, [], List, codes, map};
+ghost use Rattle.std.specs.Prelude.{◌≡◌, ℕ, ◌+◌, ◌++◌, ◌∷◌, [], List, codes, map};
+ghost use Rattle.stored_lines.specs.Line.{Lines};
+ghost use Rattle.stored_lines.specs.declared.carried.Value.{Value};
+ghost use Rattle.record_shapes.specs.Shapes.{
+  line,
+  Around,
+  citation_lines,
+  event_part,
+  events_below,
+  shape_of,
+  side_line,
+};
+ghost use Rattle.node_writing.specs.Pages.{page, record_page};
 ghost use Rattle.stored_lines.specs.Tree.{Forest, list_of, node, Tree};
 ghost use Rattle.stored_lines.specs.declared.carried.Value.TheVariants as value;
 ghost use Rattle.record_kinds.specs.Model as model;
 ghost use Rattle.record_kinds.specs.declared.record.Record.{Record};
 ghost use Rattle.record_kinds.specs.declared.record.Record.TheVariants as kind;
-ghost use Rattle.record_shapes.specs.Shapes.{
-  Around,
-  citation_lines,
-  event_part,
-  events_below,
-  line,
-  shape_of,
-  side_line,
-};
-ghost use Rattle.record_nodes.specs.Pages.{page, record_page};
 ghost use Rattle.node_writing.specs.Parts.{event_head, family_head, person_head};
+
+/// Lines side by side are written one after the other.
+pub fn lines_follow_each_other()
+    ensures { (names : ℕ → List ℕ) (level : ℕ) (ts us : Lines) → page names level (ts ++ us)
+        ≡ page names level ts ++ page names level us }
+{}
+
+/// A line is followed by those below it, one level deeper.
+pub fn a_line_is_followed_by_those_below()
+    ensures { (names : ℕ → List ℕ) (level : ℕ) (tag : List ℕ) (value : Value) (below : Lines)
+        → page names level (line tag value below ∷ [])
+        ≡ page names level (line tag value [] ∷ []) ++ page names (level + 1) below }
+{}
+
+/// The line of a record is followed by those below it, from level 1.
+pub fn a_record_is_followed_by_its_lines()
+    ensures { (names : ℕ → List ℕ) (n : ℕ) (tag : List ℕ) (value : Value) (below : Lines)
+        → record_page names n (line tag value below)
+        ≡ record_page names n (line tag value []) ++ page names 1 below }
+{}
 
 /// A person is written as the first line, the names and the sex, the events, the families as a child and then those as
 /// a partner, the citations, and what is carried.

@@ -1,12 +1,13 @@
-//! The lines of records as text: each function appends the text of some lines to what is written already, and builds no
-//! node.
+//! The lines of records as nodes of a GEDCOM file: what they are, and the code that writes them.
 //!
-//! It uses `record_nodes`, whose pages are that text, `record_kinds` and `record_shapes` for records and their lines,
-//! and `gedcom_tree` and `gedcom_line` for the text of one line. Which names numbers have, and which paths places, it
-//! is told by a `Named`; which records are written, and in which order, is for the crate above.
+//! - `laws`: the lines of records as nodes of a file, with names for the numbers in their pointers, and the text that
+//!   they have.
+//! - `events`, `families`, `heads`, `laws`, `lines`, `named`, `persons`, `registers`, `side`, `sources`: the lines of
+//!   records as text: each function appends the text of some lines to what is written already, and builds no node.
 //!
-//! Callers may rely on: an `Ok` has appended the text of the lines that the contract names, and nothing else; an
-//! `AllocError` comes only where memory was refused.
+//! Callers may rely on:
+//! - an `Ok` has appended the text of the lines that the contract names, and nothing else; an `AllocError` comes only
+//!   where memory was refused.
 #![tactic(auto)]
 
 mod events;

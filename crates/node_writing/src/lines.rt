@@ -3,7 +3,7 @@
 ghost use Rattle.std.specs.Prelude.{◌≡◌, ◌++◌, ◌+◌, ◌-◌, ◌≤◌, ◌∷◌, [], OnOk, option_map, string_bytes};
 ghost use Rattle.stored_lines.specs.Levels.{levels};
 ghost use Rattle.record_shapes.specs.Shapes.{line, pointer_line, text_line, text_lines};
-ghost use Rattle.record_nodes.specs.Pages.{page};
+ghost use Rattle.node_writing.specs.Pages.{page};
 
 use crate::named::Named;
 use gedcom_line::write_line;

@@ -3,7 +3,7 @@
 ghost use Rattle.std.specs.Prelude.{◌≡◌, ◌++◌, ◌∷◌, [], map, option_map, codes, OnOk, string_bytes};
 ghost use Rattle.record_fields.specs.Words.{sex_word};
 ghost use Rattle.record_shapes.specs.Shapes.{name_line, side_line, text_lines};
-ghost use Rattle.record_nodes.specs.Pages.{page};
+ghost use Rattle.node_writing.specs.Pages.{page};
 ghost use Rattle.node_writing.specs.Parts.{person_head};
 
 use crate::lines::{push_carried, push_pointer, push_words};

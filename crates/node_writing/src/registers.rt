@@ -8,7 +8,7 @@ ghost use Rattle.record_shapes.specs.Shapes.{
   mention_line,
   text_line,
 };
-ghost use Rattle.record_nodes.specs.Pages.{page};
+ghost use Rattle.node_writing.specs.Pages.{page};
 
 use crate::events::{push_date, push_place_line};
 use crate::lines::{push_pointer, push_words};

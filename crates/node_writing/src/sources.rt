@@ -2,7 +2,7 @@
 
 ghost use Rattle.std.specs.Prelude.{◌≡◌, ◌++◌, ◌∷◌, [], map, OnOk, string_bytes};
 ghost use Rattle.record_shapes.specs.Shapes.{holding_line, loc_lines, place_lines, repo_lines, source_lines};
-ghost use Rattle.record_nodes.specs.Pages.{page};
+ghost use Rattle.node_writing.specs.Pages.{page};
 
 use crate::lines::{push_carried, push_maybe, push_pointer, push_words};
 use crate::named::Named;

@@ -24,21 +24,21 @@ use Rattle.std.specs.declared.io.Read as read
 use Rattle.std.specs.declared.io.Write as write
 use Rattle.sqlite_disk.specs.declared.Disk as disk
 use Rattle.sqlite_wal.specs.Recovery.{Image}
-use Rattle.archive_commands.specs.Tasks.{EndsOnFile}
+use Rattle.archive_runs.specs.Tasks.{EndsOnFile}
 use Rattle.archive_files.specs.Made.{IsMadeIn, Unmade}
 use Rattle.archive_state.specs.Content.{Content, nothing}
 use Rattle.command_line.specs.declared.tasks.Asked.{Asked}
 use Rattle.command_line.specs.declared.tasks.Asked.TheVariants as asked
-use Rattle.database_files.specs.Opening.{IsUntouched}
-use Rattle.database_files.specs.declared.left.Left.{Left}
+use Rattle.archive_files.specs.DatabaseOpening.{IsUntouched}
+use Rattle.archive_files.specs.declared.left.Left.{Left}
 use Rattle.devices.specs.declared.device.Device as device
 use Rattle.parish.specs.Doing.{Does, DoesTask, DoesUnder, Finished, IsNoToken}
 use Rattle.parish.specs.Lists.{find_task, list_task}
 use Rattle.parish.specs.Runs.{IsRun}
 use Rattle.parish.specs.declared.visits.Visits.{Visits}
-use Rattle.program_runs.specs.Runs.{Carries, Run, Stands}
-use Rattle.runs_on_files.specs.Beginning.{HasNoTask, idle}
-use Rattle.runs_on_files.specs.Seeing.{IsSeen, IsSeenAs}
+use Rattle.archive_runs.specs.Runs.{Carries, Run, Stands}
+use Rattle.archive_runs.specs.Beginning.{HasNoTask, idle}
+use Rattle.archive_runs.specs.Seeing.{IsSeen, IsSeenAs}
 use Rattle.tasks.specs.Moments.{Streams}
 use Rattle.tasks.specs.Status.{Finishes, Outcome, Plain, as_text}
 use Rattle.tasks.specs.declared.task.Task.{Task}

@@ -24,11 +24,11 @@ use Rattle.std.specs.declared.io.Write as write
 use Rattle.sqlite_disk.specs.declared.Disk as disk
 use Rattle.sqlite_wal.specs.Recovery.{Image}
 use Rattle.sqlite.specs.Files.{over_files}
-use Rattle.archive_commands.specs.Tasks.{EndsOnFile}
+use Rattle.archive_runs.specs.Tasks.{EndsOnFile}
 use Rattle.archive_state.specs.Content.{Content}
 use Rattle.command_line.specs.declared.tasks.Asked.{Asked}
 use Rattle.command_line.specs.declared.tasks.Asked.TheVariants as asked
-use Rattle.database_files.specs.declared.left.Left.{Left}
+use Rattle.archive_files.specs.declared.left.Left.{Left}
 use Rattle.devices.specs.Devices.{AppendsBeginning}
 use Rattle.devices.specs.declared.device.Device as device
 use Rattle.parish.specs.Doing.{Does, DoesTask, DoesUnder, Finished, tells}

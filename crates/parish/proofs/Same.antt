@@ -5,9 +5,9 @@ use Rattle.std.specs.declared.io.Read as read
 use Rattle.std.specs.declared.io.Write as write
 use Rattle.sqlite_disk.specs.declared.Disk as disk
 use Rattle.sqlite_wal.specs.Recovery.{Image}
-use Rattle.archive_commands.specs.Tasks.{EndsOnFile}
+use Rattle.archive_runs.specs.Tasks.{EndsOnFile}
 use Rattle.archive_state.specs.Content.{Content}
-use Rattle.database_files.specs.declared.left.Left.{Left}
+use Rattle.archive_files.specs.declared.left.Left.{Left}
 use Rattle.devices.specs.declared.device.Device as device
 use Rattle.parish.specs.Doing.{DoesTask}
 use Rattle.parish.specs.declared.visits.Visits.{Visits}

@@ -8,7 +8,7 @@ use Rattle.sqlite_wal.specs.Recovery.{Image}
 use Rattle.command_line.specs.Asking.{AsksForHelp, IsTaken, command_named, name_of}
 use Rattle.command_line.specs.declared.tasks.Asked.{Asked}
 use Rattle.command_line.specs.declared.tasks.Asked.TheVariants as asked
-use Rattle.database_files.specs.declared.left.Left.{Left}
+use Rattle.archive_files.specs.declared.left.Left.{Left}
 use Rattle.devices.specs.declared.device.Device as device
 use Rattle.parish.specs.Doing.{Does, RefusesWords}
 use Rattle.parish.specs.declared.visits.Visits.{Visits}

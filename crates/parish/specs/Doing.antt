@@ -21,7 +21,7 @@ use Rattle.std.specs.declared.io.Read as read
 use Rattle.std.specs.declared.io.Write as write
 use Rattle.sqlite_disk.specs.declared.Disk as disk
 use Rattle.sqlite_wal.specs.Recovery.{Image}
-use Rattle.archive_commands.specs.Tasks.{EndsOnFile}
+use Rattle.archive_runs.specs.Tasks.{EndsOnFile}
 use Rattle.archive_files.specs.Made.{IsMadeIn, Unmade}
 use Rattle.archive_state.specs.Content.{Content}
 use Rattle.command_line.specs.Asking.{Asks, AsksForHelp, name_of}
@@ -45,8 +45,8 @@ use Rattle.command_line.specs.declared.tasks.Asked.TheVariants.{
   Show,
   Text,
 }
-use Rattle.database_files.specs.Opening.{IsUntouched}
-use Rattle.database_files.specs.declared.left.Left.{Left}
+use Rattle.archive_files.specs.DatabaseOpening.{IsUntouched}
+use Rattle.archive_files.specs.declared.left.Left.{Left}
 use Rattle.devices.specs.Devices.{Rose}
 use Rattle.devices.specs.declared.device.Device as device
 use Rattle.parish.specs.Converting.{Converts, set_of}
@@ -57,7 +57,7 @@ use Rattle.parish.specs.declared.visits.Visits.{Visits}
 use Rattle.receipts.specs.Tokens.{IsToken}
 use Rattle.record_text.specs.declared.refusal.RefusalKind.{RefusalKind}
 use Rattle.record_text.specs.declared.refusal.RefusalKind.TheVariants.{BadToken, OutOfMemory}
-use Rattle.shown_archives.specs.declared.sheet.Sheet.{Sheet as Page}
+use Rattle.archive_output.specs.declared.sheet.Sheet.{Sheet as Page}
 use Rattle.tasks.specs.Moments.{Streams}
 use Rattle.tasks.specs.Status.{Finishes, Outcome, Plain, as_text, placeless_text}
 use Rattle.tasks.specs.declared.task.Task.{Task}

@@ -21,7 +21,7 @@ use Rattle.clap.specs.Words.{subcommand_of}
 use Rattle.command_line.specs.Asking.{IsTaken, command_named, is_told}
 use Rattle.command_line.specs.Commands.{program}
 use Rattle.devices.specs.Devices.{AppendsBeginning}
-use Rattle.file_imports.specs.Faults.{refusal_of}
+use Rattle.archive_input.specs.Faults.{refusal_of}
 use Rattle.gedcom_rules.specs.Faults.{Fault}
 use Rattle.gedcom_tree.specs.File.{ReadsFile}
 use Rattle.gedcom_tree.specs.Forest.{Item}

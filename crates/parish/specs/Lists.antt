@@ -2,8 +2,8 @@
 use Rattle.std.specs.Prelude.{ℕ, List, [], Option, Some, None, option_map}
 use Rattle.command_line.specs.declared.tasks.RecordKind.{RecordKind}
 use Rattle.command_line.specs.declared.tasks.RecordKind.TheVariants as asked
-use Rattle.finding.specs.declared.wanted.Kind.{Kind}
-use Rattle.finding.specs.declared.wanted.Kind.TheVariants as kind
+use Rattle.searching.specs.declared.wanted.Kind.{Kind}
+use Rattle.searching.specs.declared.wanted.Kind.TheVariants as kind
 use Rattle.tasks.specs.declared.task.Task.{Task}
 use Rattle.tasks.specs.declared.task.Task.TheVariants as task
 

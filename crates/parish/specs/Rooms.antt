@@ -9,8 +9,8 @@ use Rattle.parish.specs.declared.visits.Visits.{Visits}
 use Rattle.reading_room.specs.Listening.{listening_line}
 use Rattle.record_text.specs.declared.refusal.RefusalKind.{RefusalKind}
 use Rattle.record_text.specs.declared.refusal.RefusalKind.TheVariants.{WriteFailed}
-use Rattle.shown_archives.specs.declared.sheet.Sheet.{Sheet}
-use Rattle.shown_archives.specs.declared.sheet.Sheet.TheVariants as sheet
+use Rattle.archive_output.specs.declared.sheet.Sheet.{Sheet}
+use Rattle.archive_output.specs.declared.sheet.Sheet.TheVariants as sheet
 
 -- the sheet of a kind, of that number; a pedigree has so many generations
 abbrev pub IsSheetOf : SheetKind → ℕ → ℕ → Sheet → Type 0

@@ -21,9 +21,9 @@ use Rattle.command_line.specs.declared.tasks.Asked.TheVariants.{
 }
 use Rattle.parish.specs.Lists.{find_task, list_task}
 use Rattle.parish.specs.Rooms.{IsSheetOf}
-use Rattle.program_runs.specs.Runs.{Carries, Stands}
-use Rattle.runs_on_files.specs.Beginning.{idle}
-use Rattle.shown_archives.specs.declared.sheet.Sheet.{Sheet as Page}
+use Rattle.archive_runs.specs.Runs.{Carries, Stands}
+use Rattle.archive_runs.specs.Beginning.{idle}
+use Rattle.archive_output.specs.declared.sheet.Sheet.{Sheet as Page}
 use Rattle.tasks.specs.declared.task.Task.{Task}
 use Rattle.tasks.specs.declared.task.Task.TheVariants as task
 

@@ -3,7 +3,7 @@
 ghost use Rattle.std.specs.Prelude.{◌≡◌, ◌⊎◌, IfErr, IfOk, Option};
 ghost use Rattle.sqlite_wal.specs.Files.{image_at};
 ghost use Rattle.archive_state.specs.Content.{Content};
-ghost use Rattle.archive_commands.specs.Tasks.{EndsOnFile};
+ghost use Rattle.archive_runs.specs.Tasks.{EndsOnFile};
 ghost use Rattle.parish.specs.Doing.{DoesTask, DoesUnder, Makes};
 ghost use Rattle.parish.specs.Rooms.{IsRoomOf};
 ghost use Rattle.receipts.specs.Tokens.{IsToken};
@@ -12,10 +12,9 @@ ghost use Rattle.tasks.specs.Status.{Finishes, Outcome};
 ghost use Rattle.tasks.specs.declared.task.Task.TheVariants as task;
 
 use crate::visits::{Visits, room_of};
-use archive_commands::perform_on_file;
-use archive_files::init;
-use database_files::{Left, LeftFile, Openable};
-use gedcom_tree::Device;
+use archive_files::{Left, LeftFile, Openable, init};
+use archive_runs::perform_on_file;
+use devices::Device;
 use receipts::Token;
 use record_text::RefusalKind;
 use std::alloc::Global;

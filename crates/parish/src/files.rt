@@ -7,10 +7,10 @@ ghost use Rattle.gedcom_rules.specs.Views.{fault_view};
 ghost use Rattle.gedcom_tree.specs.Streams.{NotWritten};
 ghost use Rattle.parish.specs.Ends as ends;
 
-use file_imports::refusal_of;
-use gedcom_tree::{
-    Device, TransferError, TreeFault, TreeKind, normalise, read_forest, write_bytes,
-};
+use archive_input::refusal_of;
+use devices::{Device, TransferError, write_bytes};
+use gedcom_rules::{TreeFault, TreeKind};
+use gedcom_tree::{normalise, read_forest};
 use record_text::{RefusalText, Unit};
 use std::alloc::Global;
 use std::io::{Read, Write};

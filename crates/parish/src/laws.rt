@@ -4,17 +4,17 @@ ghost use Rattle.std.specs.Prelude.{◌≡◌, ◌≢◌, ℕ, List, Option};
 ghost use Rattle.sqlite_wal.specs.Recovery.{Image};
 ghost use Rattle.command_line.specs.Asking.{IsTaken};
 ghost use Rattle.command_line.specs.declared.tasks.Asked.{Asked};
-ghost use Rattle.database_files.specs.Opening.{IsUntouched};
-ghost use Rattle.database_files.specs.declared.left.Left.{Left};
+ghost use Rattle.archive_files.specs.DatabaseOpening.{IsUntouched};
+ghost use Rattle.archive_files.specs.declared.left.Left.{Left};
 ghost use Rattle.parish.specs.Doing.{Does};
 ghost use Rattle.parish.specs.Runs.{IsRun, IsRunOf};
 ghost use Rattle.parish.specs.declared.visits.Visits.{Visits};
-ghost use Rattle.runs_on_files.specs.Leaving.{FindsAfter};
-ghost use Rattle.runs_on_files.specs.Seeing.{IsSeen, IsSeenAs};
+ghost use Rattle.archive_runs.specs.Leaving.{FindsAfter};
+ghost use Rattle.archive_runs.specs.Seeing.{IsSeen, IsSeenAs};
 ghost use Rattle.tasks.specs.Moments.{Streams};
 
-use gedcom_tree::Device;
-use runs_on_files::laws::{a_run_without_a_task_loses_nothing, a_task_on_a_file_loses_nothing};
+use archive_runs::laws::{a_run_without_a_task_loses_nothing, a_task_on_a_file_loses_nothing};
+use devices::Device;
 use sqlite_disk::Disk;
 use std::io::{Read, Write};
 

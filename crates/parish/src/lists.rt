@@ -4,8 +4,7 @@ ghost use Rattle.std.specs.Prelude.{◌≡◌};
 ghost use Rattle.parish.specs.Lists as lists;
 
 use command_line::RecordKind;
-use finding::{Kind, Wanted};
-use search_keys::SearchWords;
+use searching::{Kind, SearchWords, Wanted};
 use std::alloc::Global;
 use tasks::Task;
 

@@ -1,6 +1,6 @@
 //! The program `parish`: the words of its command line, on the standard streams.
 //!
-//! It uses `command_line` for the words, `archive_files` and `archive_commands` for the archive in a file and tasks on
+//! It uses `command_line` for the words, `archive_files` and `archive_runs` for the archive in a file and tasks on
 //! it, and `gedcom_tree` for files on the input. What it does is in `command`, over any streams and whatever the file
 //! of an archive holds; `run` is that and the close of the file, and says what is lost of an archive: nothing.
 #![tactic(auto)]
@@ -20,7 +20,7 @@ mod visits;
 
 use crate::running::run;
 use crate::visits::Visits;
-use gedcom_tree::{Counted, Device};
+use devices::{Counted, Device};
 use sqlite::Unknown;
 use std::alloc::Global;
 use std::io::Write;

@@ -3,16 +3,16 @@
 ghost use Rattle.std.specs.Prelude.{◌≡◌, ◌++◌, [], ℕ, List, None, Some, map, string_bytes};
 ghost use Rattle.sqlite_wal.specs.Files.{image_at};
 ghost use Rattle.sqlite_wal.specs.Recovery.{Image};
-ghost use Rattle.database_files.specs.Closing.{IsClosing};
-ghost use Rattle.database_files.specs.Leaving.{IsNumbered, MayBeLeft};
+ghost use Rattle.archive_files.specs.Closing.{IsClosing};
+ghost use Rattle.archive_files.specs.Leaving.{IsNumbered, MayBeLeft};
 ghost use Rattle.parish.specs.Runs.{IsRunOf};
-ghost use Rattle.runs_on_files.specs.Leaving.{IsAsTold};
+ghost use Rattle.archive_runs.specs.Leaving.{IsAsTold};
 
 use crate::command::command;
 use crate::visits::Visits;
-use database_files::{ClosedFile, Openable};
-use gedcom_tree::Device;
-use runs_on_files::{close_file, stop_file};
+use archive_files::{ClosedFile, Openable};
+use archive_runs::{close_file, stop_file};
+use devices::Device;
 use std::io::{Read, Write};
 use std::rt::HostRuntime;
 
@@ -20,7 +20,7 @@ use std::rt::HostRuntime;
 /// and the room that is to be served.
 ///
 /// `ended`: nothing is lost of each archive that the file held, by what the run wrote and its status, so that runs
-/// follow each other by the law of `program_runs`. `stopped`: nor where it is stopped after the close, with some of
+/// follow each other by the law of `archive_runs`. `stopped`: nor where it is stopped after the close, with some of
 /// what it wrote seen.
 pub fn run<S: Openable, R: Read + Device, W: Write + Device, F: Write + Device>(
     rt: &HostRuntime,

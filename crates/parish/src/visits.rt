@@ -4,11 +4,11 @@ ghost use Rattle.std.specs.Int.{IsInRange};
 ghost use Rattle.devices.specs.Devices.{Rose};
 ghost use Rattle.parish.specs.Rooms.{IsRoomOf, IsSheetOf, VisitsEnd};
 
+use archive_output::Sheet;
 use command_line::SheetKind;
-use gedcom_tree::Device;
+use devices::Device;
 use reading_room::{Room, serve};
 use sheets::{Generations, Library};
-use shown_archives::Sheet;
 use std::alloc::Global;
 use std::io::Write;
 use std::net::{Net, TcpListener, TcpStream};

@@ -1,7 +1,7 @@
 -- Rooms that show the same records answer alike.
 use Rattle.std.proofs.Common.{◌≡◌, ◌⊎◌, ℕ, List, ap}
 use Rattle.archive_state.specs.Content.{Records}
-use Rattle.room_visits.specs.Visits.{Answers, IsEither, Room}
+use Rattle.room_requests.specs.Visits.{Answers, IsEither, Room}
 use Rattle.reading_room.specs.Room.{room}
 
 -- that rooms which show the same answer alike

@@ -23,8 +23,8 @@ use Rattle.std.specs.Char.{is_ascii_digit}
 use Rattle.std.specs.List.{list_all}
 use Rattle.std.specs.Str.Parse.{digits_value}
 use Rattle.std.proofs.lemmas.Bool.Decides.{nat_tests}
-use Rattle.room_routes.specs.Pages.{is_number, number_in}
-use Rattle.room_routes.specs.Queries.{at_most, generations_in, generations_of, value_of}
+use Rattle.room_requests.specs.Pages.{is_number, number_in}
+use Rattle.room_requests.specs.Queries.{at_most, generations_in, generations_of, value_of}
 use Rattle.list_laws.proofs.Numbers.{at_most as most_is}
 
 -- what is some number is within these bounds

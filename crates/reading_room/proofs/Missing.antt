@@ -7,8 +7,8 @@ use Rattle.record_text.specs.declared.refusal.RefusalKind.{RefusalKind}
 use Rattle.archive_state.specs.Content.{Records}
 use Rattle.sheets.specs.Gathered.{Gathered, gathered}
 use Rattle.sheets.specs.Pedigrees.{pedigree_in}
-use Rattle.room_visits.specs.declared.pages.PageFound.{PageFound}
-use Rattle.room_visits.specs.declared.pages.PageFound.TheVariants as found
+use Rattle.room_requests.specs.declared.pages.PageFound.{PageFound}
+use Rattle.room_requests.specs.declared.pages.PageFound.TheVariants as found
 use Rattle.reading_room.specs.Room.{IsPersonIn, pedigree_page, sheet_page, wrongly_asked}
 
 -- the two pages of a pedigree, of a record that is none of a person

@@ -9,11 +9,11 @@ use Rattle.archive_state.specs.Content.{Records}
 use Rattle.sheets.specs.Pages as pages
 use Rattle.sheets.specs.Pedigrees.{pedigree}
 use Rattle.sheets.specs.Sheets.{family_sheet, person_sheet, register_sheet}
-use Rattle.room_routes.specs.Queries.{generations_of, value_of}
-use Rattle.room_routes.specs.declared.page.Page.{Page}
-use Rattle.room_routes.specs.declared.page.Page.TheVariants as page
-use Rattle.room_visits.specs.declared.pages.PageFound.{PageFound}
-use Rattle.room_visits.specs.declared.pages.PageFound.TheVariants as found
+use Rattle.room_requests.specs.Queries.{generations_of, value_of}
+use Rattle.room_requests.specs.declared.page.Page.{Page}
+use Rattle.room_requests.specs.declared.page.Page.TheVariants as page
+use Rattle.room_requests.specs.declared.pages.PageFound.{PageFound}
+use Rattle.room_requests.specs.declared.pages.PageFound.TheVariants as found
 
 -- a person stands at the number
 abbrev pub IsPersonIn : Records → ℕ → Type 0

@@ -5,13 +5,13 @@ ghost use Rattle.archive_state.specs.Content.{Content, Records};
 ghost use Rattle.archive_state.specs.Sound.{IsSound};
 ghost use Rattle.masking.specs.Hidden.{AreAlike};
 ghost use Rattle.masking.specs.Masking.{IsMasked};
-ghost use Rattle.room_routes.specs.declared.page.Page.TheVariants as page;
-ghost use Rattle.room_visits.specs.Visits.{Answers, IsEither};
-ghost use Rattle.room_visits.specs.declared.pages.PageFound.TheVariants as found;
+ghost use Rattle.room_requests.specs.declared.page.Page.TheVariants as page;
+ghost use Rattle.room_requests.specs.Visits.{Answers, IsEither};
+ghost use Rattle.room_requests.specs.declared.pages.PageFound.TheVariants as found;
 ghost use Rattle.reading_room.specs.Room.{IsPersonIn, room};
 
 use masking::laws::what_is_hidden_changes_nothing;
-use room_visits::laws::what_is_shown_decides;
+use room_requests::laws::what_is_shown_decides;
 
 /// Equal masked records answer the same bytes alike, but for a head that is malformed or cut, and too large: it may be
 /// answered with 400 or 431, neither of which tells of the records.

@@ -3,15 +3,14 @@
 ghost use Rattle.std.specs.Prelude.{◌≡◌, ◌≤◌, ℕ, List, codes, IfOk, IfSome, Result};
 ghost use Rattle.record_text.specs.declared.refusal.RefusalKind.{RefusalKind as SpecKind};
 ghost use Rattle.archive_state.specs.Sound.{IsSound};
-ghost use Rattle.room_routes.specs.Queries.{value_of};
+ghost use Rattle.room_requests.specs.Queries.{value_of};
 ghost use Rattle.reading_room.specs.Room as shows;
 ghost use Rattle.reading_room.specs.Sheets.{IsToldOf};
 
+use masking::Shown;
 use record_text::RefusalKind;
-use room_routes::{Page, Query};
-use room_visits::{PageFound, PageText, Pages};
+use room_requests::{Page, PageFound, PageText, Pages, Query};
 use sheets::{Generations, Library};
-use shown_state::Shown;
 use std::alloc::{AllocError, Global};
 use std::marker::Model;
 

@@ -5,12 +5,12 @@ ghost use Rattle.std.specs.Io.KnownBytes.{Keeps};
 ghost use Rattle.devices.specs.Counts.{failures_of, inner_of};
 ghost use Rattle.devices.specs.Devices.{Rose};
 ghost use Rattle.archive_state.specs.Sound.{IsSound};
-ghost use Rattle.room_visits.specs.Visits.{Served, BeginsToServe};
+ghost use Rattle.room_requests.specs.Visits.{Served, BeginsToServe};
 ghost use Rattle.reading_room.specs.Room as shows;
 
 use crate::room::Room;
 use devices::{Counted, Device};
-use room_visits::{VisitError, answer_one};
+use room_requests::{VisitError, answer_one};
 use std::alloc::Global;
 use std::io::{Read, Write};
 

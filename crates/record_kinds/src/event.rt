@@ -73,7 +73,7 @@ pub struct Event {
     pub owner: u32,
     /// What happened: a tag of GEDCOM 5.5.1, chapter 2, as `BIRT`.
     pub tag: Tag,
-    /// What stands behind the tag; mostly empty.
+    /// What stands after the tag; mostly empty.
     pub value: Text,
     pub date: Option<Date>,
     pub place: Option<EventPlace>,

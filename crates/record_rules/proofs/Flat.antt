@@ -5,7 +5,7 @@ use Rattle.std.proofs.lemmas.List.Folds.{list_all-append}
 use Rattle.stored_lines.specs.Tree.{Tree, forest_of}
 use Rattle.stored_lines.specs.Line.{Line}
 use Rattle.record_kinds.specs.Model as model
-use Rattle.record_links.specs.Carried.{family_carried}
+use Rattle.archive_state.specs.Carried.{family_carried}
 use Rattle.record_rules.specs.Lines.{line_all, forest_all}
 
 pub all_both : {A : Type 0} (p : A → Bool) (xs ys : List A) → list_all p (xs ++ ys) ≡ (list_all p xs && list_all p ys)

@@ -9,7 +9,7 @@ use Rattle.stored_lines.specs.Line.{Line, Lines}
 use Rattle.record_kinds.specs.Model as model
 use Rattle.record_text.specs.Text.{IsText}
 use Rattle.record_kinds.specs.declared.record.Record.{Record}
-use Rattle.record_links.specs.Carried.{carried, carried_tags, tags, forest_tags}
+use Rattle.archive_state.specs.Carried.{carried, carried_tags, tags, forest_tags}
 use Rattle.archive_state.specs.Sound.{own_tags}
 use Rattle.archive_state.specs.Texts.{
   there,

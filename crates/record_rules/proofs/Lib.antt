@@ -3,3 +3,13 @@ pub mod Parts
 pub mod Flat
 pub mod Leaves
 pub mod Once
+pub mod Hands
+pub mod ExamplesNumbers
+pub mod ExamplesPlaces
+pub mod ExamplesTags
+pub mod ExamplesLines
+pub mod ExamplesSlips
+pub mod ExampleTests
+pub mod Judging
+pub mod Whole
+pub mod Sound

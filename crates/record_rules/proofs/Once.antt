@@ -1,4 +1,4 @@
--- Numbers that are taken from the last on, each looked for among those behind it.
+-- Numbers that are taken from the last on, each looked for among those after it.
 use Rattle.std.proofs.Common.{
   ◌≡◌,
   ℕ,

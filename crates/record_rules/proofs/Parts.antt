@@ -49,7 +49,7 @@ use Rattle.record_fields.specs.declared.entry_words.EntryKind.{EntryKind}
 use Rattle.record_fields.specs.declared.item.Item.{Item}
 use Rattle.record_fields.proofs.Items.{same_item}
 use Rattle.record_fields.proofs.Worded.{entry_kind_back}
-use Rattle.record_links.specs.Carried.{carried_tags}
+use Rattle.archive_state.specs.Carried.{carried_tags}
 use Rattle.record_shapes.specs.Entries.{entry_of}
 use Rattle.record_shapes.specs.Forms.{Known, is_some}
 use Rattle.record_shapes.specs.Levels.{AreWithin, HasRoom, room_below}

@@ -36,8 +36,8 @@ use Rattle.record_kinds.specs.Model as model
 use Rattle.record_kinds.specs.declared.record.Record.{Record}
 use Rattle.record_kinds.specs.declared.record.Record.TheVariants as kind
 use Rattle.record_fields.specs.Words.{entry_kind_word}
-use Rattle.record_links.specs.Carried.{carried_tags}
-use Rattle.record_links.specs.Links.{Link, is_wanted}
+use Rattle.archive_state.specs.Carried.{carried_tags}
+use Rattle.archive_state.specs.Links.{Link, is_wanted}
 use Rattle.record_shapes.specs.Entries.{entry_of}
 use Rattle.record_shapes.specs.declared.field.Field.{Field}
 use Rattle.record_shapes.specs.Fields.{

@@ -1,2 +1,5 @@
 pub mod Judged
 pub mod Lines
+pub mod Archives
+pub mod ExampleJudged
+pub mod Rules

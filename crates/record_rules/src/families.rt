@@ -51,7 +51,7 @@ fn push_children(numbers: &mut Vec<u32>, children: &[Child]) -> Result<(), Alloc
     Ok(())
 }
 
-/// Whether no number is there twice: from the last on, each is looked for among those behind it.
+/// Whether no number is there twice: from the last on, each is looked for among those after it.
 fn is_each_once(alloc: Global, numbers: &[u32]) -> Result<bool, AllocError>
     ensures { IfOk result (λ b. IsTrue b ↔ IsOnce numbers.now) }
 {

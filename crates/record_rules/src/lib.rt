@@ -1,9 +1,14 @@
-//! The rules of a sound archive on one record: a function for each part of the rule.
+//! The rules of a sound archive on one record, a function for each, and small archives by hand, of which each rule is
+//! broken by one and kept by its neighbour.
 //!
-//! It uses `archive_state` for the definition, `field_rows` and `entry_reading` for what a line may be.
+//! - `entries`, `families`, `levels`, `lines`, `places`, `shapes`, `tags`, `texts`, `untaken`: the rules of a sound
+//!   archive on one record: a function for each part of the rule.
+//! - specs and proofs: small archives written by hand, judged by the definition of a sound archive: each breaks one
+//!   rule, and its neighbour none.
 //!
-//! Callers may rely on: each function answers whether the record keeps its part of the rule, exactly. Where a part
-//! asks for other records, what is known of them is given.
+//! Callers may rely on:
+//! - each function answers whether the record keeps its part of the rule, exactly. Where a part asks for other records,
+//!   what is known of them is given.
 #![tactic(auto)]
 
 mod entries;

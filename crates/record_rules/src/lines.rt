@@ -6,7 +6,7 @@ ghost use Rattle.stored_lines.specs.Line.{Line};
 ghost use Rattle.stored_lines.specs.Tree.{label};
 ghost use Rattle.record_kinds.specs.Model as model;
 ghost use Rattle.record_kinds.specs.declared.record.Record.TheVariants as kind;
-ghost use Rattle.record_links.specs.Carried as parts;
+ghost use Rattle.archive_state.specs.Carried as parts;
 ghost use Rattle.record_rules.specs.Lines.{line_all, lines_all};
 
 use record_kinds::{

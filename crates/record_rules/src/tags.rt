@@ -4,7 +4,7 @@ ghost use Rattle.std.specs.Prelude.{◌≡◌, ◌++◌, ◌↔◌, IsTrue, Bool
 ghost use Rattle.std.specs.List.{list_all};
 ghost use Rattle.stored_lines.specs.Line.{Line};
 ghost use Rattle.record_shapes.specs.Lists.{EachOf};
-ghost use Rattle.record_links.specs.Carried.{carried_tags};
+ghost use Rattle.archive_state.specs.Carried.{carried_tags};
 ghost use Rattle.archive_state.specs.Sound.{IsOfRecords, own_tags};
 ghost use Rattle.record_rules.specs.Judged as judged;
 

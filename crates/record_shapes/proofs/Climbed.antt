@@ -1,4 +1,4 @@
--- The path of a place from its names, the place first and what it stands in behind it.
+-- The path of a place from its names, the place first and what it stands in after it.
 use Rattle.std.proofs.Common.{List, ℕ, ◌++◌, refl, ◌≡◌, [], ap, ◌∙◌, append_assoc, sym}
 use Rattle.std.specs.Prelude.{Option, option_map, None, Some, codes}
 use Rattle.record_shapes.specs.Fields.{path_below}

@@ -1,4 +1,4 @@
--- What is picked from lines that are one segment behind the other.
+-- What is picked from lines that are one segment after the other.
 use Rattle.std.specs.Prelude.{
   ℕ,
   ◌≡◌,

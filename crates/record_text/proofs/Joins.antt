@@ -3,7 +3,7 @@ use Rattle.std.proofs.Common.{◌≡◌, ℕ, List, [], ◌∷◌, ◌++◌, ap}
 use Rattle.std.specs.List.{join_with_byte}
 use Rattle.std.proofs.lemmas.List.{append-nil}
 
--- words, each behind a space
+-- words, each after a space
 abbrev pub behind : List (List ℕ) → List ℕ
 behind [] = []
 behind (w ∷ ws) = 32 ∷ (w ++ behind ws)

@@ -1,4 +1,4 @@
--- Lines that are segments one behind the other, each of one field: what stands under a field is its segment.
+-- Lines that are segments one after the other, each of one field: what stands under a field is its segment.
 use Rattle.std.specs.Prelude.{List, [], ◌∷◌, ◌++◌, ◌≡◌, cond, bytes_eq, refl}
 use Rattle.std.proofs.Common.{ap, sym, ◌∙◌, append-nil}
 use Rattle.std.proofs.lemmas.List.Elements.{filter-append}

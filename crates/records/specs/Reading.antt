@@ -75,7 +75,7 @@ abbrev pub event_place_for : Option ℕ → Lines → Option model.EventPlace
 event_place_for None cs = None
 event_place_for (Some n) cs = Some (record { place = n; carried = cs })
 
--- the lines behind the first one
+-- the lines after the first one
 abbrev pub rest : Branches → Branches
 rest [] = []
 rest (t ∷ ts) = ts

@@ -182,7 +182,7 @@ fn first_text(alloc: Global, branches: &[Branch]) -> Result<Text, AllocError>
     text_or_none(alloc, &line.text)
 }
 
-/// The lines behind the first one.
+/// The lines after the first one.
 fn after_first(branches: &[Branch]) -> &[Branch]
     ensures { result.now ≡ rest branches.now }
 {

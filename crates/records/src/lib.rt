@@ -24,12 +24,3 @@ mod writing;
 
 pub use entry_keys::entry_key;
 pub use keeping::{copy_record, lines_of, record_of};
-pub use record_fields::{Date, EntryKind, Item, Partnership, Quality, Role, Sex};
-pub use record_kinds::{
-    Child, Citation, Entry, Event, EventPlace, Family, Holding, Link, Mention, Name, Other,
-    Participant, Partner, Person, Place, Record, Repo, Source,
-};
-pub use record_text::{
-    Refusal, RefusalKind, RefusalText, Tag, Text, Unit, display, surname, surname_key,
-};
-pub use stored_lines::{Carried, StoredLine, Value};

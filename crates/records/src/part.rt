@@ -44,7 +44,7 @@ pub(crate) fn push_parts<P: Part>(
     Ok(())
 }
 
-/// Adds the branch of a part behind the others.
+/// Adds the branch of a part after the others.
 fn push_part<P: Part>(alloc: Global, below: &mut Vec<Branch>, part: &P) -> Result<(), AllocError>
     ensures added { OnOk result (below.new.items ≡ below.old.items ++ (P.kept_as part.now ∷ [])) }
     ensures shallow { IfOk result (λ _. P.is_shallow part.now) }

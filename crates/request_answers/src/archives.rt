@@ -5,8 +5,10 @@ use crate::asked::{Asked, Outcome};
 use crate::files::ArchiveFiles;
 use crate::kept::{Kept, is_equal};
 use archive_core::{Request, apply, decide, step};
-use archive_state::{Answer, Changes, Numbered, State};
-use records::{Place, Record, Refusal, Text};
+use archive_state::{Changes, Numbered, State};
+use receipts::Answer;
+use record_kinds::{Place, Record};
+use record_text::{Refusal, Text};
 use request_words::{outcome_row, see, word};
 use std::alloc::{AllocError, Global};
 

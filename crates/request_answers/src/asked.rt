@@ -1,8 +1,9 @@
 //! What is asked of an archive in files, and what it answered.
 
 use archive_core::Request;
-use archive_state::{Answer, State};
-use records::{Refusal, RefusalKind, Text};
+use archive_state::State;
+use receipts::Answer;
+use record_text::{Refusal, RefusalKind, Text};
 
 pub type Outcome = Result<Answer, Refusal>;
 

@@ -3,10 +3,11 @@
 use crate::archives::Archives;
 use crate::files::ArchiveFiles;
 use crate::storing::answer_stored;
-use archive_core::{Command, Request};
-use archive_state::Token;
+use archive_core::Request;
+use commands::Command;
 use csv::ByteRecord;
-use records::RefusalKind;
+use receipts::Token;
+use record_text::RefusalKind;
 use request_words::{batch_row, bytes_rows, command_of, fields_of, import_row, refused};
 use std::alloc::{AllocError, Global};
 
@@ -36,7 +37,7 @@ fn answer_fields<F: ArchiveFiles>(
     }
 }
 
-/// The answer of what stands behind a token.
+/// The answer of what stands after a token.
 fn answer_request<F: ArchiveFiles>(
     alloc: Global,
     archives: &mut Archives<F>,

@@ -1,7 +1,7 @@
 //! The files of an archive, which may fail, and the sessions over them.
 
 use crate::asked::{Asked, Reply};
-use records::RefusalKind;
+use record_text::RefusalKind;
 use std::alloc::{AllocError, Global};
 
 /// How many calls of each file go well before all fail, and whether the files are closed at the end or the power goes
@@ -23,7 +23,7 @@ impl Fuses {
         }
     }
 
-    /// A fuse of so many calls in the file `log` or `db`; with ` off` behind it the power goes off at the end. `None`:
+    /// A fuse of so many calls in the file `log` or `db`; with ` off` after it the power goes off at the end. `None`:
     /// there is no such file, or that is no number.
     pub fn of(file: &str, calls: &str) -> Option<Fuses> {
         let calls = calls.parse::<u64>().ok()?;

@@ -2,8 +2,9 @@
 
 use crate::asked::{Asked, Outcome, Reply, Told};
 use crate::files::{ArchiveFiles, Fuses, Visits};
-use archive_state::{State, Token};
-use records::{RefusalKind, Text};
+use archive_state::State;
+use receipts::Token;
+use record_text::{RefusalKind, Text};
 use request_words::picture;
 use std::alloc::{AllocError, Global};
 

@@ -7,7 +7,7 @@ use crate::kept::Kept;
 use crate::stops::stop_row;
 use crate::words::Words;
 use archive_core::Request;
-use records::RefusalKind;
+use record_text::RefusalKind;
 use request_words::{parted, refused, requests_of, word};
 use std::alloc::{AllocError, Global};
 

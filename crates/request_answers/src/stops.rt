@@ -6,8 +6,9 @@ use crate::files::{ArchiveFiles, Fuses};
 use crate::kept::Kept;
 use crate::words::Words;
 use archive_core::{Request, step};
-use archive_state::{State, Token};
-use records::RefusalKind;
+use archive_state::State;
+use receipts::Token;
+use record_text::RefusalKind;
 use request_words::{copy, picture, word};
 use std::alloc::{AllocError, Global};
 

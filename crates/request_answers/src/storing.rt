@@ -8,7 +8,7 @@ use crate::steps::{steps, stop_steps};
 use crate::stops::{say_made, stop_create_row, stop_row};
 use crate::words::Words;
 use archive_core::Request;
-use records::RefusalKind;
+use record_text::RefusalKind;
 use request_words::{refused, request_of, requests_of, said, word};
 use std::alloc::{AllocError, Global};
 
@@ -243,7 +243,7 @@ fn visit_row<F: ArchiveFiles>(
     reply_row(alloc, first, reply)
 }
 
-/// A row of what a visit answered, behind a word.
+/// A row of what a visit answered, after a word.
 fn reply_row(alloc: Global, first: &str, reply: Reply) -> Result<Vec<u8>, AllocError> {
     let words = reply_words(alloc, first, &reply);
     drop(reply);

@@ -1,8 +1,8 @@
 //! Rows of words that need no quotes, and what an archive answered in such words.
 
 use crate::asked::{Reply, Told};
-use archive_state::Answer;
-use records::RefusalKind;
+use receipts::Answer;
+use record_text::RefusalKind;
 use std::alloc::{AllocError, Global};
 
 /// A row of words.

@@ -6,7 +6,7 @@ use crate::done::Done;
 use crate::steps::step;
 use archive_core::Request;
 use devices::Counted;
-use records::{Refusal, RefusalKind, Text};
+use record_text::{Refusal, RefusalKind, Text};
 use request_answers::{Asked, Outcome, Reply, Told};
 use sqlite::{Alter, Connection};
 use std::alloc::{AllocError, Global};
@@ -18,7 +18,7 @@ pub(crate) enum Task<'a> {
     Visit(Asked<'a>),
     /// Two visits over one connection.
     Visits(Asked<'a>, Asked<'a>),
-    /// A visit behind statements.
+    /// A visit after statements.
     Alter(&'a str, Asked<'a>),
     Create(&'a str),
     Export,

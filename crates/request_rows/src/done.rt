@@ -1,6 +1,6 @@
 //! What became of a session.
 
-use records::RefusalKind;
+use record_text::RefusalKind;
 use request_answers::Reply;
 
 /// What became of a session, by its task.

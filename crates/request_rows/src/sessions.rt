@@ -3,7 +3,7 @@
 use crate::calls::{Task, work};
 use crate::done::Done;
 use crate::images::{Images, close};
-use records::RefusalKind;
+use record_text::RefusalKind;
 use request_answers::{ArchiveFiles, Asked, Fuses, Reply, Visits};
 use std::alloc::{AllocError, Global};
 

@@ -1,8 +1,10 @@
 //! The steps of an import, and what is asked beside them, as outcomes.
 
-use archive_core::{Command, Request};
-use archive_state::{Answer, State};
-use records::{Refusal, RefusalKind};
+use archive_core::Request;
+use archive_state::State;
+use commands::Command;
+use receipts::Answer;
+use record_text::{Refusal, RefusalKind};
 use request_answers::Outcome;
 use sqlite::Alter;
 use std::alloc::{AllocError, Global};

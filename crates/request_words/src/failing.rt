@@ -3,11 +3,13 @@
 ghost use Rattle.std.specs.Prelude.{◌≡◌, ⊤, true};
 ghost use Rattle.std.specs.Result.{IfErr};
 ghost use Rattle.archive_state.specs.Content.{Content};
-ghost use Rattle.archive_view.specs.Looks.{CountsOne, is_failure, is_stop};
+ghost use Rattle.archive_state.specs.Looks.{CountsOne, is_failure, is_stop};
 
-use archive_state::{Receipt, Slip, State, Token};
-use archive_view::View;
-use records::{EntryKind, Item, Record, RefusalKind, Text};
+use archive_state::{Slip, State, View};
+use receipts::{Receipt, Token};
+use record_fields::{EntryKind, Item};
+use record_kinds::Record;
+use record_text::{RefusalKind, Text};
 use std::alloc::Global;
 
 /// Why a look fails.

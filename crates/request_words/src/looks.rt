@@ -3,10 +3,11 @@
 use crate::failing::{Failing, Failure};
 use crate::reading::command_of;
 use crate::rows::{refused, said, word};
-use archive_core::{Command, Request, decide};
-use archive_state::{Changes, Numbered, State, Token};
-use archive_view::View;
-use records::{Refusal, RefusalKind};
+use archive_core::{Request, decide};
+use archive_state::{Changes, Numbered, State, View};
+use commands::Command;
+use receipts::Token;
+use record_text::{Refusal, RefusalKind};
 use std::alloc::{AllocError, Global};
 
 /// The most looks that are made to fail: more than any command makes.
@@ -68,7 +69,7 @@ fn looks(alloc: Global, state: &State, failure: Failure, request: &Request) -> O
     }
 }
 
-/// The least number of good looks with which a request is not refused as the look behind them.
+/// The least number of good looks with which a request is not refused as the look after them.
 fn first_decided(alloc: Global, state: &State, failure: Failure, request: &Request) -> Option<u32> {
     for good in 0..MOST {
         if !is_refused_after(alloc, state, failure, request, good) {

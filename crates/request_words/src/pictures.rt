@@ -1,7 +1,8 @@
 //! All that rows show of a state, and a copy of it.
 
 use crate::seeing::see;
-use archive_state::{State, Token};
+use archive_state::State;
+use receipts::Token;
 use records::copy_record;
 use std::alloc::{AllocError, Global};
 

@@ -1,12 +1,12 @@
 //! What a row has: its fields, the command of a verb, and a request.
 
 use archive_core::Request;
-use archive_state::Token;
 use commands::{Command, EntryRow, EntryRows, RowCommand};
 use csv::ByteRecord;
 use devices::Counted;
 use gedcom_tree::read_forest;
-use records::RefusalKind;
+use receipts::Token;
+use record_text::RefusalKind;
 use std::alloc::{AllocError, Global};
 
 /// The fields of a row. `None`: one is not UTF-8.

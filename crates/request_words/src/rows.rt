@@ -1,8 +1,8 @@
 //! Answers as rows of CSV, by the default writer of `csv`.
 
-use archive_state::Answer;
 use csv::WriterBuilder;
-use records::{Refusal, RefusalKind};
+use receipts::Answer;
+use record_text::{Refusal, RefusalKind};
 use std::alloc::{AllocError, Global};
 
 /// The answer of a request under its token.

@@ -3,9 +3,13 @@
 use crate::failing::Failure;
 use crate::looks::looks_row;
 use crate::rows::{refused, row_of_four, said, word};
-use archive_state::{Change, Receipt, Slip, State, Token};
-use records::{Record, RefusalKind, StoredLine, lines_of};
+use archive_state::{Change, Slip, State};
+use receipts::{Receipt, Token};
+use record_kinds::Record;
+use record_text::RefusalKind;
+use records::lines_of;
 use std::alloc::{AllocError, Global};
+use stored_lines::StoredLine;
 
 /// What a row of the tests' own asks of an archive. One that asks nothing has no good token.
 pub fn see(

@@ -3,7 +3,7 @@
 use crate::reading::command_of;
 use crate::rows::{refused, said};
 use commands::{Field, FieldRow, batch_bytes, command_bytes, command_digest, import_bytes};
-use records::RefusalKind;
+use record_text::RefusalKind;
 use std::alloc::{AllocError, Global};
 
 /// The bytes of a command as a field, and in a second row their digest in hexadecimal.

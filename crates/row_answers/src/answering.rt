@@ -8,7 +8,7 @@ use crate::planning::plan;
 use crate::printed::{say_refusal, say_refusals, say_report};
 use crate::reading::say_read;
 use crate::values::{say_copied, say_value};
-use records::RefusalKind;
+use record_text::RefusalKind;
 use row_words::{Answer, word};
 use std::alloc::Global;
 

@@ -1,9 +1,11 @@
 //! Rows that ask what an archive holds: of a state itself, and through a view.
 
 use crate::reading::say_gone;
-use archive_state::{Slip, State, Token};
-use archive_view::View;
-use records::{EntryKind, Item, Record, RefusalKind, Text};
+use archive_state::{Slip, State, View};
+use receipts::Token;
+use record_fields::{EntryKind, Item};
+use record_kinds::Record;
+use record_text::{RefusalKind, Text};
 use row_words::{Answer, number, say_found, say_receipt, say_slip, text, token_of, word};
 use std::alloc::{AllocError, Global};
 

@@ -4,7 +4,9 @@ use crate::asking::say_gone_slip;
 use crate::noted::Noted;
 use crate::reading::say_gone;
 use archive_state::State;
-use records::{Record, RefusalKind, record_of};
+use record_kinds::Record;
+use record_text::RefusalKind;
+use records::record_of;
 use row_words::{Answer, number, receipt_of, say_receipt, slip_of, token_of, word};
 use std::alloc::{AllocError, Global};
 

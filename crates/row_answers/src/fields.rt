@@ -1,9 +1,10 @@
 //! Records, field by field: a line for each field, under the name that the type has for it. An item of a list has a
-//! line for each of its fields, and carried lines come behind a line with the name of their field.
+//! line for each of its fields, and carried lines come after a line with the name of their field.
 
 use crate::lines::{say_carried, say_carried_value};
-use records::{
-    Citation, Date, Entry, Event, Family, Mention, Other, Person, Place, Record, Repo, Source,
+use record_fields::Date;
+use record_kinds::{
+    Citation, Entry, Event, Family, Mention, Other, Person, Place, Record, Repo, Source,
 };
 use row_words::Answer;
 

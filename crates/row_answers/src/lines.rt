@@ -1,10 +1,10 @@
 //! Stored lines and the branches that they are.
 
-use records::StoredLine;
 use row_words::{Answer, number, word};
 use std::alloc::{AllocError, Global};
 use stored_lines::{
-    Branch, Carried, Value, are_same, branch_of_lines, branches_of, carried_of, lines_of_branch,
+    Branch, Carried, StoredLine, Value, are_same, branch_of_lines, branches_of, carried_of,
+    lines_of_branch,
 };
 
 /// Says what is asked of the lines.

@@ -1,9 +1,11 @@
 //! What the rows before have left, but for the tables.
 
-use archive_state::{Answer, Changes, State};
-use records::{RefusalKind, StoredLine};
+use archive_state::{Changes, State};
+use receipts::Answer;
+use record_text::RefusalKind;
 use row_words::line_of;
 use std::alloc::{AllocError, Global};
+use stored_lines::StoredLine;
 
 /// What rows change.
 #[derive(Drop)]

@@ -2,7 +2,9 @@
 
 use crate::noted::{Noted, push};
 use archive_state::{Changes, Kept, Numbered, SlipChange};
-use records::{Name, Person, Record, RefusalKind, Text, record_of};
+use record_kinds::{Name, Person, Record};
+use record_text::{RefusalKind, Text};
+use records::record_of;
 use row_words::{number, receipt_of, slip_of, text, token_of, word};
 use std::alloc::{AllocError, Global};
 

@@ -1,7 +1,7 @@
 //! Refusals and reports as they are printed.
 
 use receipts::ReportWord;
-use records::{Refusal, RefusalKind, Unit};
+use record_text::{Refusal, RefusalKind, Unit};
 use row_words::{Answer, number, optional_number, word};
 
 /// Every refusal.
@@ -56,7 +56,7 @@ const KINDS: [RefusalKind; 48] = [
     RefusalKind::WriteFailed,
 ];
 
-/// Says every refusal as it is printed, each behind the name that its type has.
+/// Says every refusal as it is printed, each after the name that its type has.
 pub(crate) fn say_refusals(out: &mut Answer) {
     for kind in &KINDS {
         out.say_named(kind, kind.name());
@@ -83,7 +83,7 @@ fn unit_of(word: &str) -> Unit {
     }
 }
 
-/// Says each word of a report behind the line of the file that a word of the row is.
+/// Says each word of a report after the line of the file that a word of the row is.
 pub(crate) fn say_report(words: &[String], out: &mut Answer) {
     for (at, word) in [
         (1, ReportWord::Dangling),

@@ -1,10 +1,13 @@
 //! Records read from lines.
 
 use crate::fields::say_record;
-use record_links::is_naming;
-use records::{Record, RefusalKind, StoredLine, copy_record, lines_of, record_of};
+use archive_state::is_naming;
+use record_kinds::Record;
+use record_text::RefusalKind;
+use records::{copy_record, lines_of, record_of};
 use row_words::{Answer, say_found};
 use std::alloc::{AllocError, Global};
+use stored_lines::StoredLine;
 
 /// Says what is asked of the record that is kept as the lines. 40: no record is.
 pub(crate) fn say_read(

@@ -1,10 +1,8 @@
 //! Values made of words, and written again.
 
 use receipts::Token;
-use records::{
-    Date, EntryKind, Item, Partnership, Quality, RefusalKind, Role, Sex, Tag, Text, display,
-    surname, surname_key,
-};
+use record_fields::{Date, EntryKind, Item, Partnership, Quality, Role, Sex};
+use record_text::{RefusalKind, Tag, Text, display, surname, surname_key};
 use row_words::{Answer, optional_text};
 use std::alloc::{AllocError, Global};
 use stored_lines::copied;
@@ -163,7 +161,7 @@ fn say_named(kind: &str, word: &str, out: &mut Answer) {
     }
 }
 
-/// Says the copy of a text behind the sign `=`, or of none.
+/// Says the copy of a text after the sign `=`, or of none.
 pub(crate) fn say_copied(alloc: Global, word: &str, out: &mut Answer) -> Result<(), RefusalKind> {
     let text = optional_text(alloc, word)?;
     out.say_text("", &copied(alloc, &text)?);

@@ -1,8 +1,9 @@
 //! What is answered to a row.
 
-use records::{RefusalKind, StoredLine, Text};
+use record_text::{RefusalKind, Text};
 use std::alloc::Global;
 use std::fmt;
+use stored_lines::StoredLine;
 
 /// What is answered to a row. Where memory is refused the answer is that refusal alone, so that those who write
 /// need not look whether they could.
@@ -72,7 +73,7 @@ impl Answer {
         self.say("\n");
     }
 
-    /// Says a line with numbers behind a word.
+    /// Says a line with numbers after a word.
     pub fn say_numbers(&mut self, word: &str, numbers: &[u32]) {
         self.say(word);
         for number in numbers {

@@ -1,8 +1,9 @@
 //! Rows that are stored lines.
 
 use crate::rows::{number, optional_number, optional_text, word};
-use records::{RefusalKind, StoredLine, Tag};
+use record_text::{RefusalKind, Tag};
 use std::alloc::Global;
+use stored_lines::StoredLine;
 
 /// The line of a row: depth, tag, text and number. 58: a word is none of them.
 pub fn line_of(alloc: Global, words: &[String]) -> Result<StoredLine, RefusalKind> {

@@ -1,6 +1,6 @@
 //! Rows: words with tabs between, in which a backslash begins an escape.
 
-use records::{RefusalKind, Text};
+use record_text::{RefusalKind, Text};
 use std::alloc::{AllocError, Global};
 
 /// The words of a row.
@@ -61,7 +61,7 @@ pub fn text(alloc: Global, words: &str) -> Result<Text, RefusalKind> {
     Text::try_new(String::from_str(alloc, words)?).ok_or(RefusalKind::BadText)
 }
 
-/// The text behind the sign `=`, or none where another word stands.
+/// The text after the sign `=`, or none where another word stands.
 pub fn optional_text(alloc: Global, word: &str) -> Result<Option<Text>, RefusalKind> {
     match word.strip_prefix("=") {
         Some(words) => Ok(Some(text(alloc, words)?)),

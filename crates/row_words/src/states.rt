@@ -2,10 +2,13 @@
 
 use crate::answer::Answer;
 use crate::rows::{number, word};
-use archive_state::{Change, Receipt, Slip, State, Token};
-use receipts::Answer as Made;
-use records::{Record, RefusalKind, StoredLine, copy_record, lines_of, record_of};
+use archive_state::{Change, Slip, State};
+use receipts::{Answer as Made, Receipt, Token};
+use record_kinds::Record;
+use record_text::RefusalKind;
+use records::{copy_record, lines_of, record_of};
 use std::alloc::{AllocError, Global};
+use stored_lines::StoredLine;
 
 /// The token that a word is. 93: it is none.
 pub fn token_of(alloc: Global, word: &str) -> Result<Token, RefusalKind> {

@@ -2,7 +2,7 @@
 //! and writes whether they occur in it. A tool of tests and benchmarks, no part of the product.
 #![tactic(auto)]
 
-use search_keys::{SearchText, SearchWords};
+use searching::{SearchText, SearchWords};
 use std::alloc::{AllocError, Global};
 use std::io::{self, BufRead, BufReader, BufWriter, Write};
 

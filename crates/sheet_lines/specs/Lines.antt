@@ -39,7 +39,7 @@ abbrev pub quality_words : Option Quality → List ℕ
 quality_words None = []
 quality_words (Some q) = codes ", quality " ++ quality_word q
 
--- a citation behind the word for its source
+-- a citation after the word for its source
 abbrev pub citation_line : List ℕ → model.Citation → List ℕ
 citation_line word c = line (word ++ (decimal c.source ++ (page_words c.page ++ quality_words c.quality)))
 
@@ -51,7 +51,7 @@ abbrev pub event_source : List ℕ
 event_source = codes "  source "
 
 -- ---- events
--- a part behind its mark, where it is not empty; the mark of the next part, a semicolon behind one that is there
+-- a part after its mark, where it is not empty; the mark of the next part, a semicolon after one that is there
 abbrev pub part_behind : List ℕ → List ℕ → List ℕ
 part_behind mark [] = []
 part_behind mark (b ∷ bs) = mark ++ printed (b ∷ bs)
@@ -60,7 +60,7 @@ abbrev pub mark_behind : List ℕ → List ℕ → List ℕ
 mark_behind mark [] = mark
 mark_behind mark (b ∷ bs) = codes "; "
 
--- the parts that are not empty: the first behind that mark, the others behind semicolons
+-- the parts that are not empty: the first after that mark, the others after semicolons
 abbrev pub parts_behind : List ℕ → List (List ℕ) → List ℕ
 parts_behind mark [] = []
 parts_behind mark (part ∷ parts) = part_behind mark part ++ parts_behind (mark_behind mark part) parts
@@ -69,7 +69,7 @@ abbrev pub date_text : Option Date → List ℕ
 date_text None = []
 date_text (Some d) = d.text
 
--- the tag, and behind it the value, the date and the path of the place
+-- the tag, and after it the value, the date and the path of the place
 abbrev pub event_line : List ℕ → model.Event → List ℕ
 event_line path e = line (e.tag ++ parts_behind (codes ": ") (e.value ∷ date_text e.date ∷ path ∷ []))
 

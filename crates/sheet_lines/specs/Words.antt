@@ -27,7 +27,7 @@ display_of (x ∷ more) = displayed x.text
 abbrev pub who : ℕ → List ℕ → List ℕ
 who n shown = decimal n ++ (codes " " ++ shown)
 
--- a date behind a word, where there is one
+-- a date after a word, where there is one
 abbrev pub dated : List ℕ → Option Date → List ℕ
 dated word None = []
 dated word (Some d) = word ++ printed d.text

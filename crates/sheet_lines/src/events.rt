@@ -9,7 +9,7 @@ use record_kinds::{Citation, Event, Participant};
 use record_text::Text;
 use std::alloc::{AllocError, Global};
 
-/// Appends the line of an event: its tag, and behind it the value, the date and the path of the place, as far as they
+/// Appends the line of an event: its tag, and after it the value, the date and the path of the place, as far as they
 /// are there.
 pub fn push_event_line(out: &mut String, event: &Event, path: &str) -> Result<(), AllocError>
     ensures { OnOk result (string_bytes out.new ≡ string_bytes out.old ++ lines.event_line path.now event.now) }
@@ -31,7 +31,7 @@ fn date_text(date: &Option<Date>) -> &str
     }
 }
 
-/// Appends a part behind the mark, where it is not empty, and answers the mark of the next.
+/// Appends a part after the mark, where it is not empty, and answers the mark of the next.
 fn push_part(out: &mut String, mark: &'static str, part: &str) -> Result<&'static str, AllocError>
     ensures text { OnOk result (string_bytes out.new ≡ string_bytes out.old ++ lines.part_behind mark.now part.now) }
     ensures next { IfOk result (λ next. next.now ≡ lines.mark_behind mark.now part.now) }
@@ -71,7 +71,7 @@ fn push_role(out: &mut String, role: &str) -> Result<(), AllocError>
     out.push_str(")")
 }
 
-/// Appends a citation behind the word for its source.
+/// Appends a citation after the word for its source.
 pub fn push_citation(out: &mut String, word: &str, citation: &Citation) -> Result<(), AllocError>
     ensures { OnOk result (string_bytes out.new ≡ string_bytes out.old
         ++ lines.citation_line word.now citation.now) }

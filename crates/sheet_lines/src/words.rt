@@ -37,7 +37,7 @@ pub(crate) fn push_right(out: &mut String, places: usize, number: u32) -> Result
     write!(out, "{number:>places$}")
 }
 
-/// Appends a date behind a word, where there is one. Refused only for want of memory.
+/// Appends a date after a word, where there is one. Refused only for want of memory.
 pub fn push_dated(out: &mut String, word: &str, date: Option<&Date>) -> Result<(), AllocError>
     ensures { OnOk result (string_bytes out.new ≡ string_bytes out.old
         ++ words.dated word.now (option_copied date.entry)) }

@@ -8,10 +8,10 @@ use Rattle.std.proofs.lemmas.List.{flat_map_more}
 use Rattle.std.proofs.lemmas.List.Folds.{flat_map-map}
 use Rattle.record_shapes.specs.Shapes.{Side}
 use Rattle.archive_state.specs.Content.{Records}
-use Rattle.export_index.specs.Index.{Index, IsIndexOf}
-use Rattle.export_index.specs.Owned.{numbers_by, sides_by}
-use Rattle.export_index.specs.declared.membership.Membership.{Membership}
-use Rattle.export_index.specs.declared.owned.Owned.{Owned}
+use Rattle.gedcom_export.specs.Index.{Index, IsIndexOf}
+use Rattle.gedcom_export.specs.Owned.{numbers_by, sides_by}
+use Rattle.gedcom_export.specs.declared.membership.Membership.{Membership}
+use Rattle.gedcom_export.specs.declared.index_owned.Owned.{Owned}
 use Rattle.sheets.specs.Gathered.{Gathered, families_of, gathered}
 use Rattle.sheets.specs.Indexed.{indexed}
 use Rattle.sheets.proofs.Same.{indexed_is}

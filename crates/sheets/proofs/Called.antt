@@ -6,11 +6,11 @@ use Rattle.std.specs.List.{filter, flat_map}
 use Rattle.record_kinds.specs.declared.record.Record.{Record}
 use Rattle.record_kinds.specs.declared.record.Record.TheVariants as kind
 use Rattle.archive_state.specs.Content.{Records}
-use Rattle.export_forest.specs.Order.{Numbered, rank}
-use Rattle.export_index.specs.Index.{Index, IsIndexOf}
-use Rattle.surname_index.specs.Numbers.{under}
-use Rattle.surname_index.specs.declared.index.SurnameIndex.{SurnameIndex}
-use Rattle.surname_index.proofs.Kept.{kept, kept_all}
+use Rattle.gedcom_export.specs.Order.{Numbered, rank}
+use Rattle.gedcom_export.specs.Index.{Index, IsIndexOf}
+use Rattle.sheet_lines.specs.Numbers.{under}
+use Rattle.sheet_lines.specs.declared.index.SurnameIndex.{SurnameIndex}
+use Rattle.sheet_lines.proofs.Kept.{kept, kept_all}
 use Rattle.sheets.specs.Called.{AreCalled, is_called, line_in}
 use Rattle.sheets.specs.Gathered.{gathered}
 use Rattle.sheets.specs.Pages.{surname_in, surname_text}

@@ -6,7 +6,7 @@ use Rattle.record_fields.specs.declared.date.Date.{Date}
 use Rattle.record_fields.specs.declared.words.Partnership.{Partnership}
 use Rattle.record_kinds.specs.Model as model
 use Rattle.record_kinds.specs.declared.record.Record.{Record}
-use Rattle.export_index.specs.declared.owned.Owned.{Owned}
+use Rattle.gedcom_export.specs.declared.index_owned.Owned.{Owned}
 use Rattle.sheets.specs.Pedigrees.{date_as, first_as, first_date, is_as, or_else}
 use Rattle.list_laws.proofs.Lists.{item_here}
 

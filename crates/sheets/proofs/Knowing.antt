@@ -1,4 +1,4 @@
--- What is known stays known, and one more is known behind it.
+-- What is known stays known, and one more is known after it.
 use Rattle.std.proofs.Common.{◌≡◌, ℕ, List, [], ap, cond, refl, sym, subst, ◌∙◌}
 use Rattle.std.specs.Prelude.{Some, None}
 use Rattle.std.specs.Ordering.{is_eq, nat_cmp}

@@ -2,8 +2,8 @@
 use Rattle.std.proofs.Common.{◌≡◌}
 use Rattle.std.specs.FinMap.{entries, get}
 use Rattle.archive_state.specs.Content.{Records}
-use Rattle.export_index.specs.Index.{Index, IsIndexOf}
-use Rattle.export_index.proofs.Places.{paths_are}
+use Rattle.gedcom_export.specs.Index.{Index, IsIndexOf}
+use Rattle.gedcom_export.proofs.Places.{paths_are}
 use Rattle.sheets.specs.Gathered.{families_of, gathered}
 use Rattle.sheets.specs.Indexed.{indexed}
 

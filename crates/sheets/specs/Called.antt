@@ -7,8 +7,8 @@ use Rattle.record_kinds.specs.declared.record.Record.TheVariants as kind
 use Rattle.archive_state.specs.Content.{Records}
 use Rattle.sheet_lines.specs.Words.{display_of}
 use Rattle.sheet_lines.specs.Lines as lines
-use Rattle.surname_index.specs.Numbers.{under, with_last}
-use Rattle.surname_index.specs.declared.index.SurnameIndex.{SurnameIndex}
+use Rattle.sheet_lines.specs.Numbers.{under, with_last}
+use Rattle.sheet_lines.specs.declared.index.SurnameIndex.{SurnameIndex}
 use Rattle.sheets.specs.Gathered.{gathered}
 use Rattle.sheets.specs.Pages.{has_key}
 
@@ -22,7 +22,7 @@ abbrev pub AreCalled : Records → SurnameIndex → Type 0
 AreCalled m s =
     (key : List ℕ) → under s.numbers key ≡ filter (λ n. is_called key (get m n)) (gathered m).persons
 
--- the number behind others, where it is of one who is called so
+-- the number after others, where it is of one who is called so
 abbrev pub with_called : List ℕ → ℕ → Option Record → List ℕ → List ℕ
 with_called key n r ks = if is_called key r then with_last n ks else ks
 

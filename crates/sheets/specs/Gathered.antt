@@ -7,9 +7,9 @@ use Rattle.record_kinds.specs.declared.record.Record.{Record}
 use Rattle.record_shapes.specs.Shapes.{Side}
 use Rattle.archive_state.specs.Content.{Records}
 use Rattle.archive_state.specs.Known.{path_of}
-use Rattle.export_forest.specs.Around.{child_sides, partner_sides}
-use Rattle.export_forest.specs.Order.{Numbered, is_citation_of, is_event_of, of_rank}
-use Rattle.export_index.specs.Index.{numbers}
+use Rattle.gedcom_export.specs.Around.{child_sides, partner_sides}
+use Rattle.gedcom_export.specs.Order.{Numbered, is_citation_of, is_event_of, of_rank}
+use Rattle.gedcom_export.specs.Index.{numbers}
 
 pub record Gathered : Type 0 where
   -- what stands at a number

@@ -1,9 +1,9 @@
 -- The same as an index has it.
 use Rattle.std.specs.FinMap.{get}
 use Rattle.archive_state.specs.Content.{Records}
-use Rattle.export_index.specs.Index.{Index}
-use Rattle.export_index.specs.Owned.{numbers_by, sides_by}
-use Rattle.export_index.specs.Paths.{path_in}
+use Rattle.gedcom_export.specs.Index.{Index}
+use Rattle.gedcom_export.specs.Owned.{numbers_by, sides_by}
+use Rattle.gedcom_export.specs.Paths.{path_in}
 use Rattle.sheets.specs.Gathered.{Gathered, families_of}
 
 abbrev pub indexed : Records → Index → Gathered

@@ -23,7 +23,7 @@ abbrev pub citation_in : List ℕ → Option Record → List ℕ
 citation_in word (Some (kind.Citation c)) = citation_line word c
 citation_in word _ = []
 
--- the citations of a record, each behind the word for its source
+-- the citations of a record, each after the word for its source
 abbrev pub citations_text : Gathered → List ℕ → ℕ → List ℕ
 citations_text g word n = flat_map (λ k. citation_in word (g.at k)) (g.citations n)
 

@@ -3,14 +3,15 @@
 ghost use Rattle.std.specs.Prelude.{◌≡◌, Some, map, option_copied};
 ghost use Rattle.std.specs.FinMap as maps;
 ghost use Rattle.record_kinds.specs.declared.record.Record.TheVariants as kind;
-ghost use Rattle.export_index.specs.Index.{IsArranged};
-ghost use Rattle.export_index.specs.declared.owned.Owned as owned;
+ghost use Rattle.gedcom_export.specs.Index.{IsArranged};
+ghost use Rattle.gedcom_export.specs.declared.index_owned.Owned as owned;
 ghost use Rattle.sheets.specs.Indexed.{indexed};
 ghost use Rattle.sheets.specs.Pedigrees as pedigrees;
 
 use archive_state::State;
-use export_index::{Index, Owned};
-use records::{Date, Event, Partner, Partnership, Record};
+use gedcom_export::{Index, Owned};
+use record_fields::{Date, Partnership};
+use record_kinds::{Event, Partner, Record};
 
 /// The first husband, or wife, of the lowest family where the person is a child. Takes no memory.
 pub(crate) fn parent_of(

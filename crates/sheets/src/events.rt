@@ -4,15 +4,15 @@ ghost use Rattle.std.specs.Prelude.{◌≡◌, ◌++◌, OnOk, Some, string_byte
 ghost use Rattle.std.specs.FinMap as map;
 ghost use Rattle.std.specs.List.{flat_map};
 ghost use Rattle.record_kinds.specs.declared.record.Record.TheVariants as kind;
-ghost use Rattle.export_index.specs.Index.{IsArranged};
-ghost use Rattle.export_index.specs.declared.owned.Owned as owned;
+ghost use Rattle.gedcom_export.specs.Index.{IsArranged};
+ghost use Rattle.gedcom_export.specs.declared.index_owned.Owned as owned;
 ghost use Rattle.sheets.specs.Indexed.{indexed};
 ghost use Rattle.sheets.specs.Owned as texts;
 
 use crate::looks::{path_of, shown_at};
 use archive_state::State;
-use export_index::{Index, Owned};
-use records::{Event, Participant, Record};
+use gedcom_export::{Index, Owned};
+use record_kinds::{Event, Participant, Record};
 use sheet_lines::{push_citation, push_event_line, push_participant};
 use std::alloc::{AllocError, Global};
 
@@ -101,7 +101,7 @@ fn push_participants(
     Ok(())
 }
 
-/// Appends the citations of a record, by number, each behind the word for its source.
+/// Appends the citations of a record, by number, each after the word for its source.
 pub(crate) fn push_citations_of(
     out: &mut String,
     state: &State,

@@ -4,7 +4,7 @@ ghost use Rattle.std.specs.Prelude.{◌≡◌, ◌++◌, IfErr, IfOk, Ok, OnOk, 
 ghost use Rattle.std.specs.FinMap as map;
 ghost use Rattle.std.specs.List.{flat_map};
 ghost use Rattle.archive_state.specs.Sound.{IsSound};
-ghost use Rattle.export_index.specs.Index.{IsArranged, IsIndexOf};
+ghost use Rattle.gedcom_export.specs.Index.{IsArranged, IsIndexOf};
 ghost use Rattle.std.specs.FinMap.{entries};
 ghost use Rattle.sheets.specs.Answers.{IsRefused};
 ghost use Rattle.sheets.specs.Gathered.{gathered};
@@ -15,10 +15,11 @@ use crate::events::{push_citations_of, push_events_of};
 use crate::gathering::index_of;
 use crate::looks::shown_at;
 use archive_state::State;
-use export_index::Index;
-use records::{Child, Family, Partner, Record, RefusalKind};
+use gedcom_export::Index;
+use masking::Shown;
+use record_kinds::{Child, Family, Partner, Record};
+use record_text::RefusalKind;
 use sheet_lines::{push_child, push_family_head, push_partner};
-use shown_state::Shown;
 use std::alloc::{AllocError, Global};
 
 /// The sheet of a family: partners, events, citations and children. 50: no record that is shown has the number. 51: it

@@ -3,10 +3,10 @@
 ghost use Rattle.std.specs.Prelude.{IfOk};
 ghost use Rattle.std.specs.FinMap as map;
 ghost use Rattle.archive_state.specs.Sound.{IsSound};
-ghost use Rattle.export_index.specs.Index.{IsArranged, IsIndexOf};
+ghost use Rattle.gedcom_export.specs.Index.{IsArranged, IsIndexOf};
 
-use export_index::Index;
-use shown_state::Shown;
+use gedcom_export::Index;
+use masking::Shown;
 use std::alloc::{AllocError, Global};
 
 /// The index of all masked records, none of which is copied.
@@ -14,5 +14,5 @@ pub(crate) fn index_of(alloc: Global, shown: &Shown) -> Result<Index, AllocError
     ensures shows { IsSound shown.now → IfOk result (λ index. IsIndexOf (map.entries shown.now.records) index) }
     ensures arranged { IfOk result (λ index. IsArranged index) }
 {
-    export_index::index_of(alloc, shown.as_state())
+    gedcom_export::index_of(alloc, shown.as_state())
 }

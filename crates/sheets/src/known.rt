@@ -1,7 +1,7 @@
 //! What is known of the persons of a pedigree, so that who stands at many numbers is looked at once.
 
 ghost use Rattle.std.specs.Prelude.{◌≡◌, IfOk, OnOk, option_copied, string_bytes};
-ghost use Rattle.export_index.specs.Index.{IsArranged};
+ghost use Rattle.gedcom_export.specs.Index.{IsArranged};
 ghost use Rattle.sheets.specs.Indexed.{indexed};
 ghost use Rattle.sheets.specs.Known.{AreKnown, IsAncestor, at_number};
 ghost use Rattle.sheets.specs.Pedigrees as pedigrees;
@@ -9,8 +9,8 @@ ghost use Rattle.sheets.specs.Pedigrees as pedigrees;
 use crate::ancestors::{date_of, parent_of};
 use crate::looks::shown_at;
 use archive_state::State;
-use export_index::Index;
-use records::Partnership;
+use gedcom_export::Index;
+use record_fields::Partnership;
 use sheet_lines::push_ancestor_words;
 use std::alloc::{AllocError, Global};
 use std::collections::BTreeMap;

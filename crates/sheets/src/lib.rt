@@ -1,7 +1,7 @@
 //! Sheets: pages of the masked records to read, to print and to take home.
 //!
-//! It uses `shown_state`, whose masked state is all that it can see, `export_index` for what belongs to a record,
-//! `surname_index` for who has which surname, and `sheet_lines` for the lines.
+//! It uses `masking`, whose masked state is all that it can see, `gedcom_export` for what belongs to a record,
+//! `sheet_lines` for who has which surname, and `sheet_lines` for the lines.
 //!
 //! Callers may rely on: a sheet is the text of its definition over the masked records; it is refused where no record
 //! has the number (50), where it is of another kind (51), and for want of memory.

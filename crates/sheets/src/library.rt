@@ -13,12 +13,13 @@ use crate::pages::{index_by, surname_by};
 use crate::pedigrees::pedigree_by;
 use crate::surnames::surnames_of;
 use crate::{families, persons, registers};
-use export_index::Index;
-use records::{Record, RefusalKind};
-use shown_state::Shown;
+use gedcom_export::Index;
+use masking::Shown;
+use record_kinds::Record;
+use record_text::RefusalKind;
+use sheet_lines::SurnameIndex;
 use std::alloc::{AllocError, Global};
 use std::marker::Model;
-use surname_index::SurnameIndex;
 
 /// A masked state with the index of its records and that of their surnames, which are made once for many sheets.
 /// Contracts see the masked state.
@@ -45,7 +46,7 @@ impl Model for Library {
     ghost use Rattle.stored_lines.specs.Line.{lines_code, value_code};
     ghost use Rattle.archive_state.specs.Content as content;
     ghost use Rattle.archive_state.specs.Sound.{IsSound};
-    ghost use Rattle.export_index.specs.Index.{IsArranged, IsIndexOf};
+    ghost use Rattle.gedcom_export.specs.Index.{IsArranged, IsIndexOf};
     ghost use Rattle.sheets.specs.Called.{AreCalled};
 
     ghost Value = { content.Content };

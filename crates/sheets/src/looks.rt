@@ -2,13 +2,13 @@
 
 ghost use Rattle.std.specs.Prelude.{◌≡◌, IfOk, string_bytes};
 ghost use Rattle.std.specs.FinMap as map;
-ghost use Rattle.export_index.specs.Paths.{path_in};
+ghost use Rattle.gedcom_export.specs.Paths.{path_in};
 ghost use Rattle.sheets.specs.Owned.{display_in, place_words};
 
 use archive_state::State;
-use export_index::Index;
+use gedcom_export::Index;
 use node_writing::Named;
-use records::{EventPlace, Record};
+use record_kinds::{EventPlace, Record};
 use sheet_lines::display_of;
 use std::alloc::{AllocError, Global};
 

@@ -5,7 +5,7 @@ ghost use Rattle.std.specs.FinMap as map;
 ghost use Rattle.std.specs.List.{flat_map};
 ghost use Rattle.record_kinds.specs.declared.record.Record.TheVariants as kind;
 ghost use Rattle.archive_state.specs.Sound.{IsSound};
-ghost use Rattle.export_index.specs.Index.{IsIndexOf};
+ghost use Rattle.gedcom_export.specs.Index.{IsIndexOf};
 ghost use Rattle.sheet_lines.specs.Lines as lines;
 ghost use Rattle.sheets.specs.Called.{AreCalled, line_in};
 ghost use Rattle.sheets.specs.Pages as pages;
@@ -13,12 +13,11 @@ ghost use Rattle.sheets.specs.Pages as pages;
 use crate::gathering::index_of;
 use crate::surnames::surnames_of;
 use archive_state::State;
-use export_index::{Index, Rank};
-use records::{Person, Record};
-use sheet_lines::{display_of, push_index, push_surname};
-use shown_state::Shown;
+use gedcom_export::{Index, Rank};
+use masking::Shown;
+use record_kinds::{Person, Record};
+use sheet_lines::{SurnameIndex, display_of, push_index, push_surname};
 use std::alloc::{AllocError, Global};
-use surname_index::SurnameIndex;
 
 /// How many persons, families and registers are shown.
 pub fn index_page(alloc: Global, shown: &Shown) -> Result<String, AllocError>

@@ -23,7 +23,7 @@ ghost use Rattle.std.specs.Prelude.{
 ghost use Rattle.std.specs.Option.{option_and_then};
 ghost use Rattle.archive_state.specs.Sound.{IsSound};
 ghost use Rattle.std.specs.FinMap.{entries};
-ghost use Rattle.export_index.specs.Index.{IsArranged, IsIndexOf};
+ghost use Rattle.gedcom_export.specs.Index.{IsArranged, IsIndexOf};
 ghost use Rattle.sheets.specs.Answers.{IsRefused};
 ghost use Rattle.sheets.specs.Gathered.{Gathered, gathered};
 ghost use Rattle.sheets.specs.Indexed.{indexed};
@@ -35,10 +35,12 @@ use crate::gathering::index_of;
 use crate::generations::Generations;
 use crate::known::{Ancestor, found, learn, words_of};
 use archive_state::State;
-use export_index::Index;
-use records::{Partnership, Record, RefusalKind};
+use gedcom_export::Index;
+use masking::Shown;
+use record_fields::Partnership;
+use record_kinds::Record;
+use record_text::RefusalKind;
 use sheet_lines::push_ancestor;
-use shown_state::Shown;
 use std::alloc::{AllocError, Global};
 use std::collections::BTreeMap;
 

@@ -4,10 +4,10 @@ ghost use Rattle.std.specs.Prelude.{◌≡◌, ◌++◌, IfErr, IfOk, Ok, OnOk, 
 ghost use Rattle.std.specs.List.{flat_map};
 ghost use Rattle.archive_state.specs.Sound.{IsSound};
 ghost use Rattle.sheet_lines.specs.Lines as lines;
-ghost use Rattle.export_index.specs.Index.{IsArranged, IsIndexOf};
+ghost use Rattle.gedcom_export.specs.Index.{IsArranged, IsIndexOf};
 ghost use Rattle.std.specs.FinMap.{entries};
-ghost use Rattle.export_index.specs.Owned.{sides_by};
-ghost use Rattle.export_index.specs.declared.membership.Membership as membership;
+ghost use Rattle.gedcom_export.specs.Owned.{sides_by};
+ghost use Rattle.gedcom_export.specs.declared.membership.Membership as membership;
 ghost use Rattle.sheets.specs.Answers.{IsRefused};
 ghost use Rattle.sheets.specs.Gathered.{families_of, gathered};
 ghost use Rattle.sheets.specs.Indexed.{indexed};
@@ -16,10 +16,11 @@ ghost use Rattle.sheets.specs.Sheets as sheets;
 use crate::events::{push_citations_of, push_events_of};
 use crate::gathering::index_of;
 use archive_state::State;
-use export_index::{Index, Membership};
-use records::{Person, Record, RefusalKind};
+use gedcom_export::{Index, Membership};
+use masking::Shown;
+use record_kinds::{Person, Record};
+use record_text::RefusalKind;
 use sheet_lines::{push_child_of, push_names, push_partner_in, push_person_head, push_sex};
-use shown_state::Shown;
 use std::alloc::{AllocError, Global};
 
 /// The sheet of a person: names and sex, events, citations, and the families of the person. 50: no record that is shown

@@ -6,7 +6,7 @@ ghost use Rattle.std.specs.FinMap.{entries};
 ghost use Rattle.std.specs.List.{flat_map};
 ghost use Rattle.record_kinds.specs.declared.record.Record.TheVariants as kind;
 ghost use Rattle.archive_state.specs.Sound.{IsSound};
-ghost use Rattle.export_index.specs.Index.{IsIndexOf};
+ghost use Rattle.gedcom_export.specs.Index.{IsIndexOf};
 ghost use Rattle.sheets.specs.Answers.{IsRefused};
 ghost use Rattle.sheets.specs.Gathered.{gathered};
 ghost use Rattle.sheets.specs.Indexed.{indexed};
@@ -14,10 +14,11 @@ ghost use Rattle.sheets.specs.Sheets as sheets;
 
 use crate::gathering::index_of;
 use archive_state::State;
-use export_index::{Index, Rank};
-use records::{Entry, Record, RefusalKind, Source};
+use gedcom_export::{Index, Rank};
+use masking::Shown;
+use record_kinds::{Entry, Record, Source};
+use record_text::RefusalKind;
 use sheet_lines::{push_entry, push_register_head};
-use shown_state::Shown;
 use std::alloc::{AllocError, Global};
 
 /// The sheet of a register, which is a source: its title, and its entries by number, each with its mentions. 50: no

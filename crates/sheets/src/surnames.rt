@@ -4,18 +4,18 @@ ghost use Rattle.std.specs.Prelude.{◌≡◌, ℕ, List, IfOk, OnOk, Some, if�
 ghost use Rattle.std.specs.FinMap as map;
 ghost use Rattle.std.specs.List.{list_any};
 ghost use Rattle.record_kinds.specs.declared.record.Record.TheVariants as kind;
-ghost use Rattle.export_index.specs.Index.{IsIndexOf};
-ghost use Rattle.surname_index.specs.Numbers.{under, with_last};
+ghost use Rattle.gedcom_export.specs.Index.{IsIndexOf};
+ghost use Rattle.sheet_lines.specs.Numbers.{under, with_last};
 ghost use Rattle.sheets.specs.Called.{AreCalled, with_called};
 ghost use Rattle.sheets.specs.Pages.{has_key};
 
 use archive_state::State;
-use export_index::{Index, Rank};
+use gedcom_export::{Index, Rank};
+use masking::Shown;
+use record_kinds::{Name, Record};
 use record_text::surname;
-use records::{Name, Record};
-use shown_state::Shown;
+use sheet_lines::SurnameIndex;
 use std::alloc::{AllocError, Global};
-use surname_index::SurnameIndex;
 
 /// The masked persons by their surnames, each of whom is looked at once.
 pub(crate) fn surnames_of(

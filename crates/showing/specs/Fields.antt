@@ -11,7 +11,7 @@ use Rattle.record_fields.specs.declared.words.Sex.{Sex}
 use Rattle.record_kinds.specs.Model as model
 use Rattle.record_kinds.specs.declared.record.Record.{Record}
 use Rattle.record_kinds.specs.declared.record.Record.TheVariants as kind
-use Rattle.record_nodes.specs.Pages.{page}
+use Rattle.node_writing.specs.Pages.{page}
 use Rattle.sheet_lines.specs.Words.{line, printed}
 
 -- a field with a text, with one that may be missing, and with a number

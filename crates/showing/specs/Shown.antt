@@ -20,8 +20,8 @@ use Rattle.std.specs.FinMap.{get}
 use Rattle.record_kinds.specs.declared.record.Record.{Record}
 use Rattle.archive_state.specs.Content.{Content, Records}
 use Rattle.archive_state.specs.Referrers.{referrers}
-use Rattle.finding.specs.Lines as lines
-use Rattle.finding.specs.Printing.{shown_character}
+use Rattle.searching.specs.Lines as lines
+use Rattle.searching.specs.Printing.{shown_character}
 use Rattle.showing.specs.Fields.{fields}
 use Rattle.showing.specs.Named.{named}
 
@@ -36,7 +36,7 @@ shown_page text = encode_utf8_all (map shown_in_page (chars text))
 abbrev pub head : ℕ → Record → List ℕ
 head n r = lines.line n r ++ codes "\n"
 
--- a number with what stands there, behind a word
+-- a number with what stands there, after a word
 abbrev pub at_number : ℕ → Option Record → List ℕ
 at_number n None = decimal n ++ codes "\n"
 at_number n (Some r) = head n r

@@ -5,8 +5,9 @@ ghost use Rattle.std.specs.List.{flat_map};
 ghost use Rattle.showing.specs.Fields as fields;
 
 use crate::fields::{push_below, push_date, push_maybe_number, push_number, push_text};
-use records::{Entry, Link, Mention, Other, Value};
+use record_kinds::{Entry, Link, Mention, Other};
 use std::alloc::{AllocError, Global};
+use stored_lines::Value;
 
 pub(crate) fn push_entry(out: &mut String, entry: &Entry) -> Result<(), AllocError>
     ensures { OnOk result (string_bytes out.new ≡ string_bytes out.old ++ fields.entry_fields entry.now) }

@@ -5,7 +5,7 @@ ghost use Rattle.std.specs.List.{flat_map};
 ghost use Rattle.showing.specs.Fields as fields;
 
 use crate::fields::{push_below, push_date, push_number, push_text};
-use records::{Event, EventPlace, Participant};
+use record_kinds::{Event, EventPlace, Participant};
 use std::alloc::{AllocError, Global};
 
 pub(crate) fn push_event(alloc: Global, out: &mut String, event: &Event) -> Result<(), AllocError>

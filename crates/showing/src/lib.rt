@@ -1,8 +1,8 @@
 //! A record shown whole to whoever keeps the archive: its fields, its carried lines as GEDCOM, what it names and what
 //! names it. Nothing is masked.
 //!
-//! It uses `finding` for the line of a record, `node_writing` for carried lines, and `archive_view` to look at records,
-//! wherever they are.
+//! It uses `finding` for the line of a record, `node_writing` for carried lines, and `archive_state` to look at
+//! records, wherever they are.
 //!
 //! Callers may rely on: the text is that of the definition over the whole archive; no control character but line ends
 //! is in it; nothing is changed.

@@ -6,7 +6,7 @@ ghost use Rattle.record_kinds.specs.Model as model;
 ghost use Rattle.record_kinds.specs.declared.record.Record.TheVariants as kind;
 ghost use Rattle.showing.specs.Named as names;
 
-use records::{
+use record_kinds::{
     Child, Citation, Entry, Event, EventPlace, Family, Holding, Link, Mention, Participant,
     Partner, Record,
 };

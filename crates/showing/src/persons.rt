@@ -6,7 +6,7 @@ ghost use Rattle.showing.specs.Fields as fields;
 
 use crate::fields::{push_below, push_number, push_text};
 use record_fields::Sex;
-use records::{Child, Family, Name, Partner, Person};
+use record_kinds::{Child, Family, Name, Partner, Person};
 use std::alloc::{AllocError, Global};
 
 pub(crate) fn push_person(

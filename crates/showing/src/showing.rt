@@ -4,8 +4,8 @@ ghost use Rattle.std.specs.Prelude.{◌≡◌, ◌++◌, IfOk, OnOk, Some, optio
 ghost use Rattle.std.specs.FinMap as map;
 ghost use Rattle.std.specs.List.{flat_map};
 ghost use Rattle.archive_state.specs.Referrers.{referrers};
-ghost use Rattle.archive_view.specs.Looks.{CountsFailures, Looked};
-ghost use Rattle.archive_view.specs.Views.{On};
+ghost use Rattle.archive_state.specs.Looks.{CountsFailures, Looked};
+ghost use Rattle.archive_state.specs.Views.{On};
 ghost use Rattle.showing.specs.Fields as fields;
 ghost use Rattle.showing.specs.Named as names;
 ghost use Rattle.showing.specs.Shown as shown;
@@ -15,9 +15,10 @@ use crate::events::push_event;
 use crate::named::named;
 use crate::persons::{push_family, push_person};
 use crate::sources::{push_citation, push_place, push_repo, push_source};
-use archive_view::View;
-use finding::{line_of, shown_character};
-use records::{Record, RefusalKind};
+use archive_state::View;
+use record_kinds::Record;
+use record_text::RefusalKind;
+use searching::{line_of, shown_character};
 use std::alloc::{AllocError, Global};
 
 /// The record of a number, whole: its line, its fields, the records that they name, and those that name it. `None`: no
@@ -98,7 +99,7 @@ fn push_named_by<V: View>(
     push_all(alloc, view, out, "named by: ", &numbers)
 }
 
-/// A line for each of the numbers, behind a word.
+/// A line for each of the numbers, after a word.
 fn push_all<V: View>(
     alloc: Global,
     view: &mut V,
@@ -134,7 +135,7 @@ fn push_at<V: View>(
     }
 }
 
-/// A number with what stands there, behind a word. The record is given back here.
+/// A number with what stands there, after a word. The record is given back here.
 fn push_found(
     alloc: Global,
     out: &mut String,

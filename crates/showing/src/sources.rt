@@ -6,7 +6,7 @@ ghost use Rattle.showing.specs.Fields as fields;
 
 use crate::fields::{push_below, push_maybe_number, push_number, push_option, push_text};
 use record_fields::Quality;
-use records::{Citation, Holding, Place, Repo, Source};
+use record_kinds::{Citation, Holding, Place, Repo, Source};
 use std::alloc::{AllocError, Global};
 
 pub(crate) fn push_place(alloc: Global, out: &mut String, place: &Place) -> Result<(), AllocError>

@@ -16,7 +16,7 @@ use Rattle.archive_state.proofs.Known.{path_known}
 use Rattle.record_rules.specs.Judged.{all_some, has_own_shape, has_untaken}
 use Rattle.record_rules.proofs.Parts as part
 use Rattle.record_rules.proofs.Tests.{from_some, to_some}
-use Rattle.known_records.specs.Knowing.{KnowsPaths, PathMap, known_by, known_by_before}
+use Rattle.sound_records.specs.Knowing.{KnowsPaths, PathMap, known_by, known_by_before}
 
 -- an answer that is a test, which decides
 pub if_ok_decides : {E P : Type 0} (r : Result Bool E) (t : Bool) → IfOk r (λ b. b ≡ t) → Decides t P

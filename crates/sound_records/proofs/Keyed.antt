@@ -41,8 +41,8 @@ use Rattle.record_kinds.specs.declared.record.Record.{Record}
 use Rattle.record_kinds.specs.declared.record.Record.TheVariants as kind
 use Rattle.record_shapes.specs.Lists.{Ascends, EachOf}
 use Rattle.archive_state.specs.Content.{Records}
-use Rattle.known_records.specs.Knowing.{HasAll}
-use Rattle.known_records.proofs.Surveyed.{is_in}
+use Rattle.sound_records.specs.Knowing.{HasAll}
+use Rattle.sound_records.proofs.Surveyed.{is_in}
 use Rattle.sound_records.specs.Keys.{Adds, AddsKey, AreApart, HasTaken, IsKeyed, entry_in, has_words, key_words}
 use Rattle.sound_records.proofs.Worded.{same_key, same_words}
 use Rattle.list_laws.proofs.Booleans.{or_right, or_nothing}

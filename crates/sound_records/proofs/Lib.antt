@@ -1,3 +1,5 @@
+pub mod Surveyed
+pub mod Firsts
 pub mod Worded
 pub mod Keyed
 pub mod Judged

@@ -4,7 +4,7 @@ use Rattle.std.specs.Prelude.{Some}
 use Rattle.std.specs.FinMap.{get}
 use Rattle.record_kinds.specs.declared.record.Record.{Record}
 use Rattle.archive_state.specs.Content.{Records}
-use Rattle.known_records.specs.Knowing.{AreWithin, HasAll}
+use Rattle.sound_records.specs.Knowing.{AreWithin, HasAll}
 use Rattle.sound_records.specs.Keys.{AreApart}
 use Rattle.sound_records.specs.Parts.{AllKeep, AreWhole, Keeps, KeepsAt}
 use Rattle.sound_records.proofs.Keyed.{in_list}

@@ -1,2 +1,5 @@
+pub mod Knowing
+pub mod Looks
+pub mod Standing
 pub mod Keys
 pub mod Parts

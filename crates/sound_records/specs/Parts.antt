@@ -3,8 +3,8 @@ use Rattle.std.specs.Prelude.{ℕ, ◌≡◌, ◌⊎◌, ◌++◌, Bool, List, S
 use Rattle.std.specs.FinMap.{get}
 use Rattle.record_kinds.specs.declared.record.Record.{Record}
 use Rattle.record_text.specs.Text.{IsText}
-use Rattle.record_links.specs.Carried.{carried_tags}
-use Rattle.record_links.specs.Links.{links}
+use Rattle.archive_state.specs.Carried.{carried_tags}
+use Rattle.archive_state.specs.Links.{links}
 use Rattle.record_shapes.specs.Levels.{HasRoom}
 use Rattle.record_shapes.specs.Lists.{EachOf}
 use Rattle.record_shapes.specs.Untaken.{HasUntaken}
@@ -27,8 +27,8 @@ use Rattle.archive_state.specs.Sound.{
   owner_in,
 }
 use Rattle.archive_state.specs.Texts.{carried_texts, own_texts}
-use Rattle.standing_links.specs.Standing.{IsUnmet, Meets, link_of}
-use Rattle.known_records.specs.Knowing.{IsTooLong}
+use Rattle.sound_records.specs.Standing.{IsUnmet, Meets, link_of}
+use Rattle.sound_records.specs.Knowing.{IsTooLong}
 use Rattle.sound_records.specs.Keys.{HasTaken}
 use Rattle.sound_records.specs.declared.part.Part.{Part}
 use Rattle.sound_records.specs.declared.part.Part.TheVariants as part

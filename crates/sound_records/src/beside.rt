@@ -10,17 +10,18 @@ ghost use Rattle.record_kinds.specs.declared.record.Record.TheVariants as kind;
 ghost use Rattle.record_shapes.specs.Levels.{HasRoom};
 ghost use Rattle.record_shapes.specs.Paths as place_paths;
 ghost use Rattle.record_shapes.specs.Untaken.{HasUntaken};
-ghost use Rattle.known_records.specs.Knowing.{KnowsPaths};
+ghost use Rattle.sound_records.specs.Knowing.{KnowsPaths};
 ghost use Rattle.sound_records.specs.Parts.{BreaksBeside, KeepsBeside};
 
 use crate::event_tags::is_event_tag;
+use crate::link_searching::first_unmet;
 use crate::part::Part;
+use crate::paths::Paths;
+use crate::seen::{Before, Seen};
 use archive_state::State;
 use field_rows::has_part;
-use known_records::{Before, Paths, Seen};
 use record_kinds::{Event, Record};
 use record_rules::{has_own_shape, has_room, has_untaken};
-use standing_links::first_unmet;
 use std::alloc::{AllocError, Global};
 
 /// The first part that the record of a number breaks by other records. `may_miss`: its numbers may name nothing.

@@ -3,7 +3,7 @@
 ghost use Rattle.std.specs.Prelude.{◌≡◌, ◌<◌, Some, IfOk, MatchOption, string_bytes};
 ghost use Rattle.std.specs.FinMap.{get};
 ghost use Rattle.record_shapes.specs.Lists.{Ascends};
-ghost use Rattle.known_records.specs.Knowing.{HasAll};
+ghost use Rattle.sound_records.specs.Knowing.{HasAll};
 ghost use Rattle.sound_records.specs.Keys as specs;
 
 use archive_state::State;

@@ -1,6 +1,6 @@
 //! The parts of the rule on records.
 
-use standing_links::Unmet;
+use crate::demand::Unmet;
 
 /// A part of the rule on records of a sound archive.
 #[derive(Clone, Copy, Debug, PartialEq, Eq)]

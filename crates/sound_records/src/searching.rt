@@ -2,15 +2,16 @@
 
 ghost use Rattle.std.specs.Prelude.{◌≡◌, IfOk, MatchOption};
 ghost use Rattle.record_shapes.specs.Lists.{Ascends};
-ghost use Rattle.known_records.specs.Knowing.{HasAll, KnowsPaths};
+ghost use Rattle.sound_records.specs.Knowing.{HasAll, KnowsPaths};
 ghost use Rattle.sound_records.specs.Parts as parts;
 
 use crate::alone::broken_alone;
 use crate::beside::broken_beside;
 use crate::keys::first_taken;
 use crate::part::{Breach, Part};
+use crate::paths::Paths;
+use crate::survey::paths_of;
 use archive_state::State;
-use known_records::{Paths, paths_of};
 use record_kinds::Record;
 use std::alloc::{AllocError, Global};
 

@@ -188,7 +188,7 @@ among_both (a_link l ∷ xs) ys = ap (λ ls. l ∷ ls) (among_both xs ys)
 among_both (a_sought n s ∷ xs) ys = among_both xs ys
 among_both (a_span n span ∷ xs) ys = among_both xs ys
 
--- rows with none in front and behind
+-- rows with none in front and after
 pub none_in_front : (xs ys : List StagedRow) → links_among xs ≡ [] → links_among (xs ++ ys) ≡ links_among ys
 none_in_front xs ys none = among_both xs ys ∙ ap (λ ls. ls ++ links_among ys) none
 

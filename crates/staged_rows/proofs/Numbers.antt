@@ -82,7 +82,7 @@ module _ (P : ℕ → Type 0) (Q : StagedRow → Type 0) where
   of_soughts (p ∷ ps) all = each_both Q (sought_row p) (flat_map sought_row ps)
       (of_sought p.number (sought_of p.«record») all.0) (of_soughts ps all.1)
 
-  -- the rows that come behind the lines
+  -- the rows that come after the lines
   of_later : (ps : List Numbered) (drawn : Drawn)
       → EachOf (λ (p : Numbered). (target : ℕ) → Q (a_link (record { target = target; no = p.number }))) ps
       → EachOf (λ (p : Numbered). (s : Sought) → Q (a_sought p.number s)) ps → EachOf Q (flat_map span_row drawn)

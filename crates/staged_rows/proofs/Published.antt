@@ -207,7 +207,7 @@ whole_is batch next ps drawn answer kept rows once fresh =
     ∙ published_wholly kept next (closed_batches batch rows.batches) (records_put batch ps rows.records)
     (later_put ps drawn (later_in rows)) (with_all_lines ps rows)
 
--- rows mean the same whatever comes behind their lines
+-- rows mean the same whatever comes after their lines
 other_later : (later : Later) (rows : Rows) (c : Content) → Means rows c → Means (with_later later rows) c
 other_later later rows c was = record {
   batch = was.batch;

@@ -18,7 +18,7 @@ use Rattle.std.specs.Prelude.{◌==◌, ◌||◌, Option, Some, None}
 use Rattle.std.specs.FinMap.{get, insert}
 use Rattle.std.proofs.lemmas.Bool.{or_left, or_right}
 use Rattle.record_kinds.specs.declared.record.Record.{Record}
-use Rattle.record_links.proofs.Stored.{lines_tell}
+use Rattle.archive_state.proofs.Stored.{lines_tell}
 use Rattle.records.specs.Stored.{stored}
 use Rattle.archive_state.specs.Applied.{applied, with_puts}
 use Rattle.archive_state.specs.Content.{Content, Records}

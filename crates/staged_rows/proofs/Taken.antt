@@ -87,7 +87,7 @@ lines_from_out n at rows none =
     (packs_gone (λ p. not (is_pack_from n at p)) less
     (λ p out. ap (λ k. has_record k rows) (it p.no n (of_that (p.no == n) _ out)) ∙ none))
 
--- behind rows that are seen as those of before
+-- after rows that are seen as those of before
 module _ (before : Rows) where
   pub lines_out : (ns : List ℕ) (rows : Rows) → AreAside ns before → IsSeenAs before rows
       → IsSeenAs before (without_all_lines ns rows)

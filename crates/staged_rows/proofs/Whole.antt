@@ -176,7 +176,7 @@ soughts_staged (p ∷ ps) rows =
     ∙ ap (with_staged (flat_map sought_row ps)) (sought_staged p.number found rows)
     ∙ soughts_staged ps (record rows { soughts = one_sought p.number found rows.soughts })
 
--- ---- all rows that come behind the lines
+-- ---- all rows that come after the lines
 -- what is in the tables of these rows
 abbrev pub Later : Type 0
 Later = List SpanRow × (List LinkRow × List SoughtRow)

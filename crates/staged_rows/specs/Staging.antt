@@ -104,11 +104,11 @@ abbrev pub links_of : List Numbered → List LinkRow
 links_of ps = with_names ps []
 
 -- ---- all rows
--- those that come behind the lines: the links, what is looked for, and the spans
+-- those that come after the lines: the links, what is looked for, and the spans
 abbrev pub later_rows : List Numbered → Drawn → List StagedRow
 later_rows ps drawn = map a_link (links_of ps) ++ (flat_map sought_row ps ++ flat_map span_row drawn)
 
--- the rows of an import in their order: those of `record`, then those with the lines, and then those that come behind
+-- the rows of an import in their order: those of `record`, then those with the lines, and then those that come after
 -- the lines
 abbrev pub rows_of_import : ℕ → List Numbered → Drawn → List StagedRow
 rows_of_import batch ps drawn = map (record_of batch) ps ++ (map lines_of_put ps ++ later_rows ps drawn)
@@ -130,7 +130,7 @@ abbrev pub IsNewRow : StagedRow → Rows → Type 0
 IsNewRow (a_link l) rows = has_link l.target l.no rows.links ≡ false
 IsNewRow _ rows = Unit {0}
 
--- so it is of all these rows, each written behind those before it
+-- so it is of all these rows, each written after those before it
 abbrev pub AreNew : List StagedRow → Rows → Type 0
 AreNew [] rows = Unit {0}
 AreNew (r ∷ rs) rows = IsNewRow r rows × AreNew rs (with_staged_row r rows)
@@ -140,7 +140,7 @@ abbrev pub with_open_import : ℕ → List Numbered → Drawn → ℕ → Rows �
 with_open_import batch ps drawn count rows =
     with_staged (take count (rows_of_import batch ps drawn)) (with_batch batch true rows)
 
--- an import is published: its batch is closed, the next number is behind its numbers, and its answer is kept
+-- an import is published: its batch is closed, the next number is after its numbers, and its answer is kept
 abbrev pub with_published : ℕ → Changes → Rows → Rows
 with_published batch changes rows = with_kept_written changes.kept (with_next changes.next (with_closed batch rows))
 

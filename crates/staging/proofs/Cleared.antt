@@ -38,7 +38,7 @@ either_seen rows after s seen leaves t may = of_two (leaves t may)
     of_two (inr good) = (after, good, seen)
 
 -- ---- a single commit
--- behind which the same is seen, where the numbers have no record
+-- after which the same is seen, where the numbers have no record
 pub one_commit : {A E : Type 0} (ns : List ℕ) (Is : Rows → Rows → Type 0) (f : Rows → Rows) (old new : State)
     (result : Result A E)
     → (HasCleanDisk new → OnOk result ((rows : Rows) → Settled old rows → Settled new (f rows)))
@@ -135,7 +135,7 @@ pub nothing_done : {A E : Type 0} (P : Type 0) (result : Result A E) → IsErr r
 nothing_done P (Ok a) is = absurd cc
 nothing_done P (Err e) is = tt
 
--- ---- a batch: what goes first, then the lines and rows of its numbers, and its own row behind all others
+-- ---- a batch: what goes first, then the lines and rows of its numbers, and its own row after all others
 module _ {A E : Type 0} (has_spans : Bool) (ns : List ℕ) (ls : List LinkRow) (old mid new : State) (result : Result A E)
     (undated : HasCleanDisk mid → (rows : Rows) → Settled old rows → rows.has_spans ≡ has_spans
     → Settled mid (without_later ns ls rows)) where

@@ -81,7 +81,7 @@ span_count : (ps : List Numbered) (ds : List Dated) (drawn : Drawn) → AreDated
 span_count ps ds drawn are other =
     sym (length-map ds row_of_span) ∙ ap length are.2 ∙ as_many_spans ps are.0 drawn are.1 other
 
--- how many rows come behind the lines
+-- how many rows come after the lines
 abbrev pub later_count : Later → ℕ
 later_count later = length later.links.items + (length later.soughts.items + length later.spans.items)
 

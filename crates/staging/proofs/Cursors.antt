@@ -136,7 +136,7 @@ pub staged_has : (rs : List StagedRow) (rows : Rows) → (with_staged rs rows).h
 staged_has [] rows = refl
 staged_has (r ∷ rs) rows = staged_has rs (with_staged_row r rows) ∙ row_has r rows
 
--- ---- rows of an import, each written behind those before it
+-- ---- rows of an import, each written after those before it
 new_then : (xs ys : List StagedRow) (rows : Rows) → AreNew xs rows → AreNew ys (with_staged xs rows)
     → AreNew (xs ++ ys) rows
 new_then [] ys rows a b = b
@@ -211,7 +211,7 @@ rows_more batch ps later c low none =
     let both : record_of batch found.0 ∷ map (record_of batch) (drop (suc c.rows) ps) ≡ [] = sym
     (ap (map (record_of batch)) found.1) ∙ gone in cc
 
--- behind the rows of `record`, nothing is left of lines and of what comes behind them
+-- after the rows of `record`, nothing is left of lines and of what comes after them
 behind_none : (batch : ℕ) (ps : List Numbered) (later : Later) (c : Cursor) → left_of batch ps later c ≡ []
     → map lines_of_put (drop c.done ps) ++ later_left later c ≡ []
 behind_none batch ps later c none = back_none (map (record_of batch) (drop c.rows ps))
@@ -228,7 +228,7 @@ pub lines_more : (batch : ℕ) (ps : List Numbered) (later : Later) (c : Cursor)
 lines_more batch ps later c low none = map_some lines_of_put c.done ps low
     (front_none (map lines_of_put (drop c.done ps)) (later_left later c) (behind_none batch ps later c none))
 
--- what comes behind the lines
+-- what comes after the lines
 module _ (later : Later) (c : Cursor) where
   abbrev links_in : List StagedRow
   links_in = map a_link (drop c.links later.links.items)
@@ -263,7 +263,7 @@ module _ (later : Later) (c : Cursor) where
       → length later.spans.items ≤ c.spans → later_left later c ≡ []
   later_past past more last = soughts_past past more ∙ ap (map row_of_span) (drop_all c.spans later.spans.items last)
 
--- where all rows of `record` and all lines are written, those behind them are left alone
+-- where all rows of `record` and all lines are written, those after them are left alone
 pub later_alone : (batch : ℕ) (ps : List Numbered) (later : Later) (c : Cursor) → length ps ≤ c.rows
     → length ps ≤ c.done → left_of batch ps later c ≡ later_left later c
 later_alone batch ps later c rows done =
@@ -273,7 +273,7 @@ later_alone batch ps later c rows done =
 pub at_end : (k n : ℕ) → nat_lt k n ≡ false → n ≤ k
 at_end k n off = let past : n ≤ k = grind (arith, nat_tests, off) in past
 
--- where some rows are left, and where it is those that come behind the lines, or none
+-- where some rows are left, and where it is those that come after the lines, or none
 pub some_first : (rs : List StagedRow) (more : Bool) → more ≡ true → (rs ≡ [] → ⊥)
     → (more ≡ false → rs ≡ []) × (rs ≡ [] → more ≡ false)
 some_first rs more on never = (
@@ -347,7 +347,7 @@ module _ (batch : ℕ) (ps : List Numbered) (later : Later) (old : Cursor) (p : 
   pub left_behind : left_of batch ps later (record old { done = old.done + 1 }) ≡ drop 1 (left_of batch ps later old)
   left_behind = ap (λ qs. map (record_of batch) qs ++ others) (drop_all old.rows ps past) ∙ sym (ap (drop 1) old_is)
 
--- ---- one row more that comes behind the lines
+-- ---- one row more that comes after the lines
 first_of : {A : Type 0} (xs ys : List A) (x : A) (more : List A) → xs ≡ x ∷ more → take 1 (xs ++ ys) ≡ take 1 xs
 first_of xs ys x more e = ap (λ zs. take 1 (zs ++ ys)) e ∙ sym (ap (take 1) e)
 

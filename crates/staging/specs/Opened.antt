@@ -84,14 +84,14 @@ IsOneMore n span old new = map row_of_span new ≡ map row_of_span old ++ span_r
 abbrev pub DrawsOne : Numbered → List Dated → List Dated → Type 0
 DrawsOne p old new = (span : Option Span) × IsSpanOf (date_in p.«record») span × IsOneMore p.number span old new
 
--- ---- the rows that come behind the lines
+-- ---- the rows that come after the lines
 pub record AreLater (ps : List Numbered) (later : Later) : Type 0 where
   pub links : later.links.items ≡ links_of ps
   pub soughts : map row_of_sought_row later.soughts.items ≡ flat_map sought_row ps
   pub spans : AreDated ps later.spans.items
 
 -- ---- how far the rows are written
--- those that come behind the lines
+-- those that come after the lines
 abbrev pub later_left : Later → Cursor → List StagedRow
 later_left later cursor = map a_link (drop cursor.links later.links.items)
     ++ (map row_of_sought_row (drop cursor.soughts later.soughts.items)
@@ -105,6 +105,6 @@ left_of batch ps later cursor = map (record_of batch) (drop cursor.rows ps)
 abbrev pub IsPlaced : List Numbered → Cursor → Type 0
 IsPlaced ps cursor = EachOf IsShallowPut (take cursor.done ps)
 
--- a row more that comes behind the lines
+-- a row more that comes after the lines
 abbrev pub GoesOnLater : Cursor → Cursor → Type 0
 GoesOnLater old new = new ≡ record old { links = new.links; soughts = new.soughts; spans = new.spans }

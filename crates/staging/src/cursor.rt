@@ -43,7 +43,7 @@ impl Cursor {
         self.rows < puts.len() || self.done < puts.len() || self.has_later(later)
     }
 
-    /// Whether rows that come behind the lines are left to be written.
+    /// Whether rows that come after the lines are left to be written.
     fn has_later(&self, later: &Later) -> bool
         ensures { (result ≡ false) ↔ (later_left later.now self.now ≡ []) }
     {

@@ -4,7 +4,8 @@ ghost use Rattle.std.specs.Prelude.{IfOk, OnOk};
 ghost use Rattle.staging.specs.Opened.{AreDated, DrawsOne, IsOneMore};
 
 use archive_state::Numbered;
-use date_spans::{Span, span_of};
+use date_spans::span_of;
+use gedcom_date::Span;
 use std::alloc::{AllocError, Global};
 
 /// The span of a number.

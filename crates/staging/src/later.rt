@@ -1,4 +1,4 @@
-//! The rows of an import that come behind its lines: its links, what its records are looked for by, and their spans.
+//! The rows of an import that come after its lines: its links, what its records are looked for by, and their spans.
 
 ghost use Rattle.std.specs.Prelude.{IfOk};
 ghost use Rattle.staging.specs.Opened.{AreLater};
@@ -21,7 +21,7 @@ pub(crate) struct Later {
     pub(crate) spans: Vec<Dated>,
 }
 
-/// The rows that come behind the lines of these records.
+/// The rows that come after the lines of these records.
 pub(crate) fn later_of_puts(alloc: Global, puts: &[Numbered]) -> Result<Later, AllocError>
     ensures { IfOk result (λ later. AreLater puts.now later) }
 {

@@ -21,7 +21,7 @@ pub struct OpenImport {
     pub(crate) changes: Changes,
     /// The numbers that it puts, so that taking it out again needs no memory.
     pub(crate) numbers: Vec<u32>,
-    /// The rows that come behind the lines of the records that it puts.
+    /// The rows that come after the lines of the records that it puts.
     pub(crate) later: Later,
     pub(crate) cursor: Cursor,
 }

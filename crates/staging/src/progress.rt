@@ -64,7 +64,7 @@ impl RowCount {
     }
 }
 
-/// How many rows the import of these records has, at most 2^64 - 1: two for each record, and those that come behind the
+/// How many rows the import of these records has, at most 2^64 - 1: two for each record, and those that come after the
 /// lines.
 fn count_rows(puts: &[Numbered], later: &Later) -> usize
     requires later { AreLater puts.now later.now }

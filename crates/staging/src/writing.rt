@@ -71,7 +71,7 @@ pub fn stage_rows<S: Alter>(
     }
 }
 
-/// Publishes an import: its batch is closed, the next number is behind its numbers, and its answer is kept.
+/// Publishes an import: its batch is closed, the next number is after its numbers, and its answer is kept.
 /// `Err`: a statement failed.
 pub fn publish_rows<S: Alter>(tx: &mut Transaction<'_, S>, import: &OpenImport) -> Result<(), Error>
     ensures same_reference { tx.new.conn.ghost_name ≡ tx.old.conn.ghost_name }
@@ -158,7 +158,7 @@ fn write_next<S: Alter>(
     Ok(())
 }
 
-/// Writes the next row that comes behind the lines, where one is left.
+/// Writes the next row that comes after the lines, where one is left.
 fn write_later<S: Alter>(
     tx: &mut Transaction<'_, S>,
     later: &Later,

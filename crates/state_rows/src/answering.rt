@@ -6,7 +6,7 @@ use crate::session::Session;
 use crate::sheet::say_sheet;
 use crate::visits::say_visit;
 use archive_state::State;
-use records::RefusalKind;
+use record_text::RefusalKind;
 use row_words::{Answer, line_of, number, word, words_of};
 use std::alloc::Global;
 

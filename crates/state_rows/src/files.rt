@@ -3,13 +3,13 @@
 use archive_state::{Batch, State};
 use devices::Counted;
 use gedcom_tree::{Forest, read_forest};
-use interchange::batch_of;
+use imports::batch_of;
 use receipts::Report;
-use records::{Refusal, Unit};
+use record_text::{Refusal, Unit};
 use row_words::{Answer, say_found};
 use std::alloc::{AllocError, Global};
 
-/// Says the batch of the file of a text: the next number behind it, each record with its number and its lines, and
+/// Says the batch of the file of a text: the next number after it, each record with its number and its lines, and
 /// each line of the report; or the refusal with its line. The state stays.
 pub(crate) fn say_batch(
     alloc: Global,

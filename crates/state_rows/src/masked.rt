@@ -1,11 +1,10 @@
 //! Who is living, and what is shown.
 
 use archive_state::State;
-use records::RefusalKind;
+use masking::{Shown, living, shown};
+use record_text::RefusalKind;
 use row_words::{Answer, number, say_found, word};
-use shown_state::{Shown, shown};
 use std::alloc::{AllocError, Global};
-use who_is_living::living;
 
 /// The day that a word is, and 0 where it is none.
 pub(crate) fn day(words: &[String], at: usize) -> i32 {

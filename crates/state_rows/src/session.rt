@@ -1,8 +1,10 @@
 //! What the rows before have left.
 
 use archive_state::State;
-use records::{RefusalKind, StoredLine, record_of};
+use record_text::RefusalKind;
+use records::record_of;
 use std::alloc::{AllocError, Global};
+use stored_lines::StoredLine;
 
 /// What rows change.
 #[derive(Drop)]

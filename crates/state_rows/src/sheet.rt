@@ -2,12 +2,12 @@
 
 use crate::masked::masked_on;
 use archive_state::State;
-use records::RefusalKind;
+use masking::Shown;
+use record_text::RefusalKind;
 use row_words::{Answer, number, word};
 use sheets::{
     Generations, family_sheet, index_page, pedigree, person_sheet, register_sheet, surname_page,
 };
-use shown_state::Shown;
 use std::alloc::Global;
 
 /// Says a sheet of what is shown that day.

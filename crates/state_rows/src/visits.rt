@@ -4,11 +4,11 @@ use crate::masked::masked_on;
 use archive_state::State;
 use devices::Counted;
 use hex::FromHexError;
+use masking::Shown;
 use reading_room::{Room, serve_one};
-use records::RefusalKind;
-use room_visits::VisitError;
+use record_text::RefusalKind;
+use room_requests::VisitError;
 use row_words::{Answer, word};
-use shown_state::Shown;
 use std::alloc::Global;
 
 /// Says the bytes that a room, which shows what is shown that day, writes to those of a request, both in hexadecimal

@@ -36,7 +36,7 @@ use Rattle.archive_state.specs.Content.{Content}
 use Rattle.archive_state.specs.Sound.{IsSound}
 use Rattle.record_text.specs.declared.refusal.RefusalKind.{RefusalKind}
 use Rattle.record_text.specs.declared.refusal.RefusalKind.TheVariants.{BadStored, Storage}
-use Rattle.records_anew.specs.Anew.{IsAnew, IsSoundOld, OldContent}
+use Rattle.older_archives.specs.Anew.{IsAnew, IsSoundOld, OldContent}
 use Rattle.store_rows.specs.Links.{KeepsLinks}
 use Rattle.store_rows.specs.Meaning.{Means, is_closed}
 use Rattle.store_rows.specs.Sought.{KeepsSought}
@@ -48,8 +48,8 @@ use Rattle.store_tables.proofs.Reopening.{sound_once}
 use Rattle.staged_rows.specs.Removing.{IsSeenAs}
 use Rattle.staging.specs.Clearing.{IsCleared, LeavesSeen}
 use Rattle.staging.specs.Opening.{LeavesOne}
-use Rattle.old_rows.specs.Meaning.{AreSeenAlike, MeansAnew, MeansOld}
-use Rattle.old_rows.specs.Renewing.{IsRenewed, LeavesRenewed}
+use Rattle.older_archives.specs.Meaning.{AreSeenAlike, MeansAnew, MeansOld}
+use Rattle.older_archives.specs.Renewing.{IsRenewed, LeavesRenewed}
 use Rattle.store.specs.Adopting.{
   ClearsImports,
   HasNoImport,

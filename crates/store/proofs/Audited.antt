@@ -28,7 +28,7 @@ use Rattle.store_tables.specs.Calls.{LeavesOnly, Settled}
 use Rattle.store_tables.specs.Looking.{IsFailure}
 use Rattle.store_tables.specs.Rows.{Rows}
 use Rattle.store_rows.proofs.OneContent.{one_content}
-use Rattle.archive_audits.specs.Judging.{AreNone, Judges, KeepsTables}
+use Rattle.table_looks.specs.Judging.{AreNone, Judges, KeepsTables}
 use Rattle.store.specs.Archives.{HasArchive}
 use Rattle.store.specs.Calls.{Reads}
 use Rattle.store.specs.Histories.{is_storage}

@@ -34,7 +34,7 @@ use Rattle.record_text.specs.declared.refusal.Refusal.{Refusal}
 use Rattle.record_text.specs.declared.refusal.RefusalKind.{RefusalKind}
 use Rattle.record_text.specs.declared.refusal.RefusalKind.TheVariants.{OutOfMemory, BadStored, Storage}
 use Rattle.commands.specs.Rows.{is_want}
-use Rattle.archive_view.specs.Looks.{is_stop}
+use Rattle.archive_state.specs.Looks.{is_stop}
 use Rattle.receipts.specs.declared.answer.Answer.{Answer}
 use Rattle.receipts.specs.declared.answer.Receipt.{Receipt}
 use Rattle.archive_state.specs.Applied.{applied}
@@ -42,7 +42,7 @@ use Rattle.archive_state.specs.Changes.{Changes}
 use Rattle.archive_state.specs.Content.{Content}
 use Rattle.archive_state.specs.declared.changes.Kept.{Kept}
 use Rattle.archive_core.specs.Applied.{Decides}
-use Rattle.archive_looks.specs.Exact.{ChangesNothing}
+use Rattle.command_checks.specs.Exact.{ChangesNothing}
 use Rattle.archive_core.specs.Exact.{IsExactFor}
 use Rattle.archive_core.specs.Machine.{Does, outcome}
 use Rattle.archive_core.specs.Words.{HasUtf8Words}

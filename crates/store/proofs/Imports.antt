@@ -34,9 +34,9 @@ use Rattle.archive_state.specs.Changes.{Changes}
 use Rattle.archive_state.specs.Content.{Content}
 use Rattle.archive_state.specs.Sound.{IsSound}
 use Rattle.archive_state.specs.declared.changes.Kept.{Kept}
-use Rattle.archive_looks.specs.Exact.{ChangesNothing}
+use Rattle.command_checks.specs.Exact.{ChangesNothing}
 use Rattle.receipts.specs.declared.answer.Receipt.{Receipt}
-use Rattle.import_steps.specs.Imports.{OnlyAdds}
+use Rattle.imports.specs.Imports.{OnlyAdds}
 use Rattle.archive_core.specs.Applied.{Decides}
 use Rattle.archive_core.specs.Exact.{IsExactFor}
 use Rattle.archive_core.specs.Machine.{Does, outcome}

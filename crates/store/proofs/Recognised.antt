@@ -31,7 +31,7 @@ use Rattle.record_text.specs.declared.refusal.RefusalKind.TheVariants.{
   OutOfMemory,
   Storage,
 }
-use Rattle.archive_view.specs.Looks.{is_stop}
+use Rattle.archive_state.specs.Looks.{is_stop}
 use Rattle.store_tables.specs.Calls.{IsAsItWas, LeavesOnly, Settled}
 use Rattle.store_tables.specs.Looking.{IsFailure, IsRefusedStore, Looks, version_number}
 use Rattle.store_tables.specs.Prepared.{IsRefusedTables, queries_of}

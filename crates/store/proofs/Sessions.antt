@@ -84,7 +84,7 @@ module _ {S : Type 0} (g : Ghosts S) where
         let archive = has_the_archive view society c o (state g h) has in
         (c, refl, (archive.0, only h archive.0 archive.1 t l, archive.2))
 
-    -- behind a call that loses the archive or does not
+    -- after a call that loses the archive or does not
     behind : (lost : Bool) (call : Call) (more : List Call) (was : Standing) (old next new : Held S) (society : List ℕ)
         (c : Content) → call.1.is_lost ≡ lost → GoesOn g old was call.0 next call.1 → Serves g next call.1 more new
         → HasCleanDisk (state g new) → Has society c was.import (state g old)

@@ -30,7 +30,7 @@ use Rattle.archive_state.specs.Content.{Content, Records}
 use Rattle.record_shapes.specs.Lists.{Ascends, EachOf}
 use Rattle.archive_state.specs.Sound.{IsSound}
 use Rattle.archive_state.specs.declared.changes.Numbered.{Numbered}
-use Rattle.archive_looks.specs.Exact.{ChangesNothing, IsExact}
+use Rattle.command_checks.specs.Exact.{ChangesNothing, IsExact}
 use Rattle.store_tables.specs.Rows.{LineRow, PackRow, RecordRow, Rows}
 use Rattle.store_rows.specs.Spans.{Drawn, with_dated_changes}
 use Rattle.store_rows.specs.Writing.{with_changes}

@@ -6,7 +6,7 @@ use Rattle.sqlite.specs.Tree.{Trees}
 use Rattle.sqlite_rules.specs.Lists.{Has}
 use Rattle.sqlite_trees.specs.declared.store.Store.{Ghosts}
 use Rattle.archive_state.specs.Content.{Content}
-use Rattle.archive_view.specs.Looks.{is_stop}
+use Rattle.archive_state.specs.Looks.{is_stop}
 use Rattle.record_text.specs.declared.refusal.RefusalKind.{RefusalKind}
 use Rattle.record_text.specs.declared.refusal.RefusalKind.TheVariants.{
   BadStored,
@@ -25,8 +25,8 @@ use Rattle.store_rows.specs.Spans.{IsDated}
 use Rattle.staged_rows.specs.Removing.{IsSeenAs}
 use Rattle.staged_rows.specs.Staging.{AreAllClosed}
 use Rattle.staging.specs.Clearing.{IsCleared, LeavesSeen}
-use Rattle.old_rows.specs.Meaning.{MeansAnew}
-use Rattle.old_rows.specs.Renewing.{IsRenewed, LeavesRenewed}
+use Rattle.older_archives.specs.Meaning.{MeansAnew}
+use Rattle.older_archives.specs.Renewing.{IsRenewed, LeavesRenewed}
 use Rattle.store.specs.Archives.{HasArchive, LeavesArchive}
 use Rattle.store.specs.Earlier.{HadArchive, LeavesHeld, ShowsArchive}
 use Rattle.store.specs.Histories.{has_broken}

@@ -4,10 +4,10 @@ use Rattle.std.specs.Prelude.{◌≡◌, ◌⊎◌, ℕ, List}
 use Rattle.sqlite.specs.State.{State}
 use Rattle.sqlite.specs.Tree.{Trees}
 use Rattle.archive_state.specs.Content.{Content}
-use Rattle.records_anew.specs.Anew.{IsAnew, IsSoundOld, OldContent}
+use Rattle.older_archives.specs.Anew.{IsAnew, IsSoundOld, OldContent}
 use Rattle.store_tables.specs.Calls.{Good, Settled}
 use Rattle.store_tables.specs.Rows.{Rows}
-use Rattle.old_rows.specs.Meaning.{AllShallowOld, MeansOld}
+use Rattle.older_archives.specs.Meaning.{AllShallowOld, MeansOld}
 use Rattle.store.specs.Archives.{HasArchive, IsArchive}
 
 -- the rows of a society's archive of the first version: they mean what it held by the grammar of that time, all of it

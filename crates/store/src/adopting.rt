@@ -5,7 +5,7 @@ ghost use Rattle.std.specs.Prelude.{◌≡◌, true, false, IfErr, IsTrue, OnErr
 ghost use Rattle.std.specs.List.{list_any};
 ghost use Rattle.sqlite.specs.State.{HasCleanDisk};
 ghost use Rattle.sqlite.specs.Held.{state};
-ghost use Rattle.archive_view.specs.Looks.{is_stop};
+ghost use Rattle.archive_state.specs.Looks.{is_stop};
 ghost use Rattle.record_text.specs.declared.refusal.RefusalKind.TheVariants.{BadStored};
 ghost use Rattle.store_rows.specs.Meaning.{is_closed};
 ghost use Rattle.store_tables.specs.Calls.{IsAsItWas, LeavesAsBefore, LeavesOnly, Settled};
@@ -33,10 +33,9 @@ ghost use Rattle.store.specs.Histories.{has_broken, is_storage};
 
 use crate::failing::is_stop;
 use crate::reading::recognise;
-use old_rows::laws::what_is_seen_alike_means_the_same;
-use old_rows::renew;
+use older_archives::laws::{what_is_seen_alike_means_the_same, what_was_sound_is_sound_anew};
+use older_archives::renew;
 use record_text::RefusalKind;
-use records_anew::laws::what_was_sound_is_sound_anew;
 use sqlite::{Alter, Connection};
 use staged_rows::laws::what_is_seen_means_the_same;
 use staging::remove_open;

@@ -36,7 +36,7 @@ ghost use Rattle.std.specs.FinMap.{get, keys};
 ghost use Rattle.sqlite.specs.State.{HasCleanDisk};
 ghost use Rattle.sqlite.specs.Held.{state};
 ghost use Rattle.sqlite.specs.Tree.{Trees};
-ghost use Rattle.archive_view.specs.Looks.{is_stop};
+ghost use Rattle.archive_state.specs.Looks.{is_stop};
 ghost use Rattle.date_spans.specs.Between.{AreAll, IsBetween};
 ghost use Rattle.record_text.specs.declared.refusal.RefusalKind.TheVariants as refusal;
 ghost use Rattle.archive_core.specs.Machine.{Does, import_of};
@@ -47,7 +47,7 @@ ghost use Rattle.store_tables.specs.Calls.{IsAsItWas, Settled, SettledBlank, Lea
 ghost use Rattle.store_tables.specs.Looking.{IsFailure};
 ghost use Rattle.store_tables.specs.Rows.{Rows};
 ghost use Rattle.store_tables.specs.Schema.{no_schema};
-ghost use Rattle.archive_audits.specs.Judging.{Judges, Tells, without_fault};
+ghost use Rattle.table_looks.specs.Judging.{Judges, Tells, without_fault};
 ghost use Rattle.store.specs.Adopting.{
   HasNoImport,
   IsRecognised,
@@ -89,15 +89,17 @@ use crate::failing::{has_broken, has_failed, loses};
 use crate::open_imports::{abandon_open, publish_open, stage_open, told};
 use crate::performing::perform_on;
 use crate::reading::{society_on, state_on};
-use archive_audits::Flaw;
-use archive_core::{Forest, Request};
-use archive_state::{Answer, State, Token};
+use archive_core::Request;
+use archive_state::State;
+use gedcom_tree::Forest;
 use import_commits::laws::an_import_that_is_begun_is_in_no_view;
+use receipts::{Answer, Token};
 use record_text::{Refusal, RefusalKind, Text};
 use sqlite::{Alter, Connection};
 use staging::OpenImport;
 use std::alloc::Global;
 use store_tables::connection::is_blank;
+use table_looks::Flaw;
 
 /// A society's archive, over a connection on which no transaction is open.
 pub struct Archive<S: Alter> {

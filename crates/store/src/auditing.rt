@@ -4,16 +4,16 @@ ghost use Rattle.std.specs.Prelude.{◌≡◌, false, length};
 ghost use Rattle.std.specs.FinMap.{keys};
 ghost use Rattle.sqlite.specs.State.{HasCleanDisk};
 ghost use Rattle.sqlite.specs.Held.{state};
-ghost use Rattle.archive_audits.specs.Judging.{Judges, Tells, without_fault};
+ghost use Rattle.table_looks.specs.Judging.{Judges, Tells, without_fault};
 ghost use Rattle.store.specs.Calls.{Reads};
 ghost use Rattle.store.specs.Histories as history;
 
 use crate::failing::is_storage;
 use crate::reading::refusal_after;
-use archive_audits::{Flaw, judge_tables};
 use record_text::RefusalKind;
 use sqlite::{Alter, Connection};
 use std::alloc::Global;
+use table_looks::{Flaw, judge_tables};
 
 /// What an audit answers: how many records there are, or why not, with what is wrong where that was found.
 pub(crate) type Audit = Result<u32, (RefusalKind, Option<Flaw>)>;

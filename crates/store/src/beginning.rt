@@ -9,8 +9,8 @@ ghost use Rattle.gedcom_tree.specs.Text.{IsForest};
 ghost use Rattle.archive_core.specs.Applied.{Decides};
 ghost use Rattle.archive_core.specs.Exact.{IsExactFor};
 ghost use Rattle.archive_core.specs.Machine.{Does, import_of, outcome};
-ghost use Rattle.archive_view.specs.Looks.{is_stop};
-ghost use Rattle.import_steps.specs.Imports.{OnlyAdds};
+ghost use Rattle.archive_state.specs.Looks.{is_stop};
+ghost use Rattle.imports.specs.Imports.{OnlyAdds};
 ghost use Rattle.store_tables.specs.Calls.{Settled, LeavesOnly};
 ghost use Rattle.store_tables.specs.Rows.{Rows, with_batch};
 ghost use Rattle.import_commits.specs.Commits.{IsWhole, IsNextBatch, LeavesBegun};
@@ -22,12 +22,14 @@ ghost use Rattle.store.specs.Viewing.{OnReadable};
 
 use crate::archive::Archive;
 use crate::performing::refusal_after;
-use archive_core::{Forest, decide_import};
-use archive_state::{Answer, Changes, Token};
+use archive_core::decide_import;
+use archive_state::Changes;
+use gedcom_tree::Forest;
 use import_commits::begin;
 use import_commits::laws::{
     an_import_that_is_begun_is_in_no_view, nothing_is_there_of_the_next_batch,
 };
+use receipts::{Answer, Token};
 use record_text::{Refusal, RefusalKind};
 use sqlite::{Alter, Connection};
 use staging::OpenImport;

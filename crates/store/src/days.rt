@@ -7,10 +7,10 @@ ghost use Rattle.date_spans.specs.Between.{AreAll, IsBetween};
 ghost use Rattle.store.specs.Calls.{Reads};
 
 use crate::reading::refusal_after;
-use dated_looks::between_days;
 use record_text::RefusalKind;
 use sqlite::{Alter, Connection};
 use std::alloc::Global;
+use table_looks::between_days;
 
 /// The numbers of the events and register entries that may have happened in these days. After any refusal but 80 the
 /// connection still answers.

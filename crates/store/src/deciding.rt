@@ -8,7 +8,7 @@ ghost use Rattle.archive_core.specs.Applied.{Decides};
 ghost use Rattle.archive_core.specs.Exact.{IsExactFor};
 ghost use Rattle.archive_core.specs.Machine.{outcome};
 ghost use Rattle.archive_core.specs.Words.{HasUtf8Words};
-ghost use Rattle.archive_view.specs.Looks.{is_stop};
+ghost use Rattle.archive_state.specs.Looks.{is_stop};
 ghost use Rattle.store_tables.specs.Calls.{Settled, LeavesOnly};
 ghost use Rattle.store.specs.Viewing.{OnReadable};
 

@@ -1,10 +1,10 @@
 //! Which refusals say that the database failed.
 
 ghost use Rattle.std.specs.Prelude.{◌≡◌};
-ghost use Rattle.archive_view.specs.Looks as looks;
+ghost use Rattle.archive_state.specs.Looks as looks;
 ghost use Rattle.store.specs.Histories as history;
 
-use archive_state::Answer;
+use receipts::Answer;
 use record_text::{Refusal, RefusalKind};
 
 /// Whether a refusal says that the database failed.

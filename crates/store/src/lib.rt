@@ -21,4 +21,3 @@ mod viewing;
 mod whole_imports;
 
 pub use archive::{Archive, society_named};
-pub use staging::{OpenImport, Progress, RowCount, Silent};

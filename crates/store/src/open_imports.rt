@@ -38,7 +38,7 @@ ghost use Rattle.store.specs.Importing.{HasImport, HasPublished, StaysOn};
 ghost use Rattle.store.specs.Standing.{begun_told};
 
 use crate::importing::{abandon_on, publish_on, stage_on};
-use archive_state::Answer;
+use receipts::Answer;
 use record_text::{Refusal, RefusalKind};
 use sqlite::{Alter, Connection};
 use staging::OpenImport;

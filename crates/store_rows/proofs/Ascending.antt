@@ -37,7 +37,7 @@ use Rattle.std.proofs.lemmas.List.Kept.{IsStrictlySortedBy-filter}
 use Rattle.std.proofs.lemmas.Map.Lookups.{btree_set_from_contains}
 use Rattle.std.specs.FinMap.{nat_cmp-IsAntisymmetric}
 use Rattle.record_kinds.specs.declared.record.Record.{Record}
-use Rattle.record_links.specs.Links.{is_among, links}
+use Rattle.archive_state.specs.Links.{is_among, links}
 use Rattle.archive_state.specs.Content.{Content}
 use Rattle.archive_state.specs.Referrers.{referrers, naming}
 use Rattle.sqlite.specs.Tree.{IsAscending}

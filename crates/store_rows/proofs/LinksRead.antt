@@ -32,8 +32,8 @@ use Rattle.std.proofs.lemmas.Bool.Decides.{nat_tests}
 use Rattle.std.proofs.lemmas.Bool.{or_left, or_right, or_cases}
 use Rattle.stored_lines.specs.Line.{Label}
 use Rattle.record_kinds.specs.declared.record.Record.{Record}
-use Rattle.record_links.specs.Stored.{is_target, some_line_names}
-use Rattle.record_links.proofs.Stored.{lines_tell}
+use Rattle.archive_state.specs.Stored.{is_target, some_line_names}
+use Rattle.archive_state.proofs.Stored.{lines_tell}
 use Rattle.records.specs.Stored.{stored}
 use Rattle.archive_state.specs.declared.changes.Numbered.{Numbered}
 use Rattle.store_tables.specs.Rows.{Rows, LinkRow, is_pair, pair_cmp, put_pair, without_link}

@@ -26,7 +26,7 @@ use Rattle.std.specs.Ordering.{nat_cmp}
 use Rattle.std.specs.Cmp.{unsigned_tied}
 use Rattle.std.proofs.lemmas.Bool.Decides.{nat_tests}
 use Rattle.record_kinds.specs.declared.record.Record.{Record}
-use Rattle.record_links.specs.Links.{is_among, links}
+use Rattle.archive_state.specs.Links.{is_among, links}
 use Rattle.archive_state.specs.Referrers.{referrers, naming}
 use Rattle.store_rows.specs.Links.{names_at}
 use Rattle.store_rows.proofs.Own.{either_way}

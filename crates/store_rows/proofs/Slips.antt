@@ -146,7 +146,7 @@ placed_elsewhere : (m n at : ℕ) (ss : List SlipSide) → n ≢ m → own slip_
 placed_elsewhere m n at [] off = refl
 placed_elsewhere m n at (s ∷ ss) off = rw (is_not n m off) (placed_elsewhere m n (at + 1) ss off)
 
--- of the number itself there is none before its place, and none behind
+-- of the number itself there is none before its place, and none after
 none_before : (n : ℕ) (ss : List SlipPackRow) → own slip_of n (filter (λ (s : SlipPackRow). nat_lt s.slip n) ss) ≡ []
 none_before n [] = refl
 none_before n (s ∷ ss) =
@@ -230,7 +230,7 @@ none_of_behind m n low (s ∷ ss) =
       | false ↦ λ e. none_of_behind m n low ss
     ] refl
 
--- what is there of a number when sides are put between those before and behind
+-- what is there of a number when sides are put between those before and after
 cut : (m : ℕ) (xs ys zs : List SlipPackRow) → own slip_of m (xs ++ (ys ++ zs))
     ≡ own slip_of m xs ++ (own slip_of m ys ++ own slip_of m zs)
 cut m xs ys zs = filter-append (λ (s : SlipPackRow). s.slip == m) xs (ys ++ zs)

@@ -40,7 +40,7 @@ use Rattle.store_rows.specs.Meaning.{change_lines, slip_row, slip_row_at}
 use Rattle.store_rows.specs.Sides.{SideLine}
 use Rattle.store_rows.specs.Grouped.{IsSlipBy, AreSlipsOf}
 
--- what is behind a reference, where there is one
+-- what is after a reference, where there is one
 pub none_copied : {X : Type 0} → (o : Option (Bor X)) → is_some o ≡ false → option_copied o ≡ None
 none_copied None e = refl
 none_copied (Some b) e = absurd (let no : true ≡ false = e in cc)

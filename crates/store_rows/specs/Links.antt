@@ -5,7 +5,7 @@ use Rattle.std.specs.List.{list_any}
 use Rattle.std.specs.FinMap.{get}
 use Rattle.stored_lines.specs.Line.{Label}
 use Rattle.record_kinds.specs.declared.record.Record.{Record}
-use Rattle.record_links.specs.Links.{is_among, links}
+use Rattle.archive_state.specs.Links.{is_among, links}
 use Rattle.records.specs.Stored.{stored}
 use Rattle.archive_state.specs.Content.{Content}
 use Rattle.archive_state.specs.declared.changes.Numbered.{Numbered}

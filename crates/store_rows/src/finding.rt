@@ -20,8 +20,9 @@ ghost use Rattle.store_rows.specs.Finding.{
 
 use crate::looking::record_at;
 use archive_state::is_entry_of;
+use record_fields::{EntryKind, Item};
+use record_kinds::{Place, Record};
 use record_text::{RefusalKind, Text};
-use records::{EntryKind, Item, Place, Record};
 use sqlite::{Alter, Connection};
 use std::alloc::{AllocError, Global};
 use store_tables::soughts;
@@ -183,7 +184,7 @@ fn climbed_from<'a>(place: &Place, number: u32, path: &'a [u8]) -> Climb<'a>
     }
 }
 
-/// What stands behind the front, where the bytes begin with it.
+/// What stands after the front, where the bytes begin with it.
 fn behind<'a>(bytes: &'a [u8], front: &[u8]) -> Option<&'a [u8]>
     ensures { MatchOption result
         ((rest : List ℕ) → bytes.now ≢ front.now ++ rest) (λ rest. bytes.now ≡ front.now ++ rest.now) }

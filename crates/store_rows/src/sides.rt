@@ -22,8 +22,9 @@ ghost use Rattle.store_rows.specs.Sides.{
 };
 
 use archive_state::Change;
+use record_kinds::Record;
 use record_text::RefusalKind;
-use records::{Record, record_of};
+use records::record_of;
 use std::alloc::{AllocError, Global};
 use std::collections::VecDeque;
 use store_tables::SlipLineRow;

@@ -4,8 +4,9 @@ ghost use Rattle.std.specs.Prelude.{◌≡◌, IfOk, Some, None};
 ghost use Rattle.record_kinds.specs.declared.record.Record.TheVariants as kind;
 ghost use Rattle.store_rows.specs.Sought.{sought_of};
 
+use record_kinds::{Entry, Record};
 use record_text::Text;
-use records::{Entry, Record, entry_key};
+use records::entry_key;
 use std::alloc::{AllocError, Global};
 use std::marker::Model;
 

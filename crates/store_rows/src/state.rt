@@ -28,8 +28,9 @@ ghost use Rattle.store_rows.specs.Grouped.{
 use crate::grouping::{closed_batches, grouped_lines, grouped_slip_lines};
 use crate::sides::changes_of;
 use archive_state::{Change, Slip, State};
+use record_kinds::Record;
 use record_text::RefusalKind;
-use records::{Record, record_of};
+use records::record_of;
 use std::alloc::{AllocError, Global};
 use std::collections::{BTreeMap, BTreeSet};
 use store_tables::{

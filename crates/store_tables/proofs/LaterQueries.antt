@@ -46,7 +46,7 @@ module _ (sql : List ℕ) (params : Row) (of : IsOfSecond sql) where
   no_commit s db false has h = no_text (sym h.1.is ∙ ap (λ r. understood r sql) has ∙ of.1)
   no_commit s db true has h = never_commits sql params s db (subst (λ r. IsPlain (understood r sql)) (sym has) of.0) h
 
-  -- what a crash may leave behind the query
+  -- what a crash may leave after the query
   pub leaves_later : (old new : State)
       → (IsTrue old.is_open → (t : Trees) → old.may_leave t → t ≡ old.committed.trees)
       → Survives old new (CommitsShowing sql params old) → HasCleanDisk new → (rows : Rows) → Settled old rows

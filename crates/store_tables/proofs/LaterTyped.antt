@@ -6,7 +6,7 @@ use Rattle.std.specs.Ordering.{match_ordering}
 use Rattle.record_text.specs.Text.{IsText}
 use Rattle.std.specs.Str.{IsUtf8}
 use Rattle.stored_lines.specs.Line.{Label}
-use Rattle.packed_lines.specs.Packed.{packed}
+use Rattle.packed_rows.specs.Packed.{packed}
 use Rattle.store_tables.specs.Reading.{AreTyped, HaveTop, IsTypedLine, IsTypedLink, IsU32}
 use Rattle.store_tables.specs.Rows.{
   Rows,

@@ -56,7 +56,7 @@ use Rattle.sqlite.specs.State.{State, Executes, ExecutesIn}
 use Rattle.sqlite.proofs.Callers.{IsPlain, command_of, runs_as, one_step, statement_of}
 use Rattle.sqlite.specs.Listing.{understood}
 use Rattle.stored_lines.specs.Line.{Label}
-use Rattle.packed_lines.specs.Packed.{packed}
+use Rattle.packed_rows.specs.Packed.{packed}
 use Rattle.store_tables.specs.Schema.{archive_schema, lines, packs}
 use Rattle.store_tables.specs.Rows.{
   Rows,

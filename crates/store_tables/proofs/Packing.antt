@@ -36,8 +36,8 @@ use Rattle.sqlite.specs.Order.{Row, column}
 use Rattle.sqlite.specs.State.{State, HasCleanDisk, Shown}
 use Rattle.stored_lines.specs.Line.{Label}
 use Rattle.record_text.specs.declared.refusal.RefusalKind.{RefusalKind}
-use Rattle.packed_lines.specs.Packed.{ArePackedAs, packed}
-use Rattle.packed_lines.proofs.OneText.{same_lines}
+use Rattle.packed_rows.specs.Packed.{ArePackedAs, packed}
+use Rattle.packed_rows.proofs.OneText.{same_lines}
 use Rattle.store_tables.specs.Calls.{Settled, LeavesOnly}
 use Rattle.store_tables.specs.Conversion.{EachWith, HasPack, IsTypedReadAs, ShowsTyped}
 use Rattle.store_tables.specs.Keyed.{IsOnly, lines_within, packs_at}

@@ -96,7 +96,7 @@ module _ {X : Type 0} (sql : List ℕ) (plain : IsPlain (understood (archive_sch
   pub shown_at : ShowsEach sql Shows old old items
   shown_at = (h.0, ends_as sql old mid h.0 plain_here kept h.1, h.2)
 
-  -- and so is what another query shows of the second schema alone, behind it
+  -- and so is what another query shows of the second schema alone, after it
   pub shown_before : {Y : Type 0} (other : List ℕ) → IsPlain (understood (archive_schema true) other)
       → (Shows : Row → Y → Type 0) (more : List Y) → ShowsEach other Shows mid mid more
       → ShowsEach other Shows old old more
@@ -113,7 +113,7 @@ module _ {X : Type 0} (sql : List ℕ) (plain : IsPlain (understood (archive_sch
   same sql plain Shows items shows = each_between sql plain Shows old mid mid old items true has_behind kept
       (back old mid kept) shows
 
-  -- all that is shown behind it
+  -- all that is shown after it
   pub read_before : (b : Bool) (read : ReadRows) → ShowsRead b read mid mid → ShowsRead b read old old
   read_before b read shows = record {
     meta = (shows.meta.0, same meta_query select_meta_plain ShowsMeta _ shows.meta.1);

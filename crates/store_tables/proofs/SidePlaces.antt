@@ -133,7 +133,7 @@ all_before n at (s ∷ ss) typed = go (nat_lt s.slip n) refl (all_before n at ss
     go true e more = (first_before s.slip s.place n at (before_if s.slip n e) typed.0.place, more)
     go false e more = more
 
--- and those of slips behind it behind each of its places
+-- and those of slips after it after each of its places
 all_behind : (n at : ℕ) → IsU32 at → (ss : List SlipPackRow)
     → AllByRecursion (λ (s : SlipPackRow). pair_place n at < slip_place s) (behind n ss)
 all_behind n at low [] = tt

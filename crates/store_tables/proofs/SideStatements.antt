@@ -43,7 +43,7 @@ use Rattle.sqlite_rules.specs.Action.{works}
 use Rattle.sqlite.specs.State.{State, Executes}
 use Rattle.sqlite.proofs.Callers.{runs_as, one_step, statement_of}
 use Rattle.sqlite.specs.Listing.{understood}
-use Rattle.packed_lines.specs.Packed.{packed}
+use Rattle.packed_rows.specs.Packed.{packed}
 use Rattle.store_tables.specs.Reading.{IsTypedSlipPack}
 use Rattle.store_tables.specs.Schema.{archive_schema, slip_packs}
 use Rattle.store_tables.specs.Rows.{

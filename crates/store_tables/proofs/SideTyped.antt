@@ -2,7 +2,7 @@
 use Rattle.std.proofs.Common.{ℕ}
 use Rattle.std.specs.List.{AllByRecursion}
 use Rattle.std.specs.Str.{IsUtf8}
-use Rattle.packed_lines.specs.Packed.{packed}
+use Rattle.packed_rows.specs.Packed.{packed}
 use Rattle.store_tables.specs.Reading.{AreTyped, HaveTop, IsTypedLine, IsU32}
 use Rattle.store_tables.specs.Rows.{Rows, SlipSide, slip_place}
 use Rattle.store_tables.specs.Sides.{with_slip_side, without_slip_sides}

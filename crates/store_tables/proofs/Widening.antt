@@ -60,7 +60,7 @@ but_last : (ts : List Table) (t : Table) (a b : Trees) → KeepsRows (ts ++ t �
 but_last [] t a b h = tt
 but_last (u ∷ us) t a b h = (h.0, but_last us t a b h.1)
 
--- what stays of all tables stays of those that both schemas have and of those behind them
+-- what stays of all tables stays of those that both schemas have and of those after them
 first_kept : (more : List Table) (old new : Trees) → KeepsRows (both_and more).tables old new
     → KeepsRows (both_tables) old new × KeepsRows more old new
 first_kept more old new all = (
@@ -150,7 +150,7 @@ no_rows : {X : Type 0} (values : X → Row) (key : X → ℕ) (xs : List X) (row
 no_rows values key xs rows none empty = subst (λ ys. Keeps values key ys rows) (sym none)
     (record { is = empty; rise = tt })
 
--- and behind the last
+-- and after the last
 pub all_widened : (base new last : State) (rows : Rows) (count : ℕ) → rows.has_spans ≡ false → Inside base rows
     → Widened base.now.trees new (slip_packs ∷ packs ∷ spans ∷ links ∷ soughts ∷ pasts ∷ [])
     → ExecutesInside 0 create_sought_by_text [] new last (Ok count)

@@ -5,8 +5,8 @@ use Rattle.std.specs.Str.{IsUtf8}
 use Rattle.sqlite.specs.declared.types.Value.TheVariants.{Int, Text as Words}
 use Rattle.sqlite.specs.Order.{Row, column}
 use Rattle.stored_lines.specs.Line.{Label}
-use Rattle.packed_lines.specs.Packed.{packed}
-pub use Rattle.packed_lines.specs.Packed.{FailsUnless}
+use Rattle.packed_rows.specs.Packed.{packed}
+pub use Rattle.packed_rows.specs.Packed.{FailsUnless}
 use Rattle.store_tables.specs.Reading.{HaveTop, IsTypedLine, IsTypedPack, IsTypedSlipPack, read_pack, read_slip_pack}
 use Rattle.store_tables.specs.Rows.{
   Rows,

@@ -45,8 +45,8 @@ use Rattle.store_tables.specs.Rows.{
   link_place,
   slip_line_of,
 }
-use Rattle.packed_lines.specs.Packed.{packed}
-pub use Rattle.packed_lines.specs.Packed.{IsU32, IsTypedLine}
+use Rattle.packed_rows.specs.Packed.{packed}
+pub use Rattle.packed_rows.specs.Packed.{IsU32, IsTypedLine}
 
 pub record ReadRows : Type 0 where
   pub next : ℕ

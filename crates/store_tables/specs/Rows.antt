@@ -36,7 +36,7 @@ use Rattle.sqlite.specs.declared.types.Value.TheVariants.{Null, Int, Text as Wor
 use Rattle.sqlite.specs.Order.{Row}
 use Rattle.sqlite.specs.Tree.{Trees, IsAscending}
 use Rattle.stored_lines.specs.Line.{Label}
-use Rattle.packed_lines.specs.Packed.{packed}
+use Rattle.packed_rows.specs.Packed.{packed}
 use Rattle.receipts.specs.declared.answer.Receipt.{Receipt}
 
 pub record BatchRow : Type 0 where
@@ -314,7 +314,7 @@ without_lines n rows =
       packs = filter (λ (p : PackRow). not (p.no == n)) rows.packs;
     }
 
--- a line of a number, at a place or behind it
+-- a line of a number, at a place or after it
 abbrev pub is_line_from : ℕ → ℕ → LineRow → Bool
 is_line_from n at l = (l.no == n) && not (nat_lt l.at at)
 

@@ -167,7 +167,7 @@ sought_by_text = record {
   is_unique = false;
 }
 
--- the tables behind the first three, in the order in which they were made
+-- the tables after the first three, in the order in which they were made
 abbrev pub more_tables : Bool → List Table
 more_tables false = lines ∷ receipts ∷ slips ∷ slip_lines ∷ []
 more_tables true = receipts ∷ slips ∷ slip_packs ∷ packs ∷ spans ∷ links ∷ soughts ∷ pasts ∷ []

@@ -5,7 +5,7 @@ use Rattle.sqlite.specs.declared.types.Value.TheVariants.{Int, Text as Words, Bl
 use Rattle.sqlite.specs.Order.{Row, column}
 use Rattle.sqlite.specs.State.{State, Shown}
 use Rattle.stored_lines.specs.Line.{Label}
-use Rattle.packed_lines.specs.Packed.{packed}
+use Rattle.packed_rows.specs.Packed.{packed}
 use Rattle.receipts.specs.declared.answer.Receipt.{Receipt}
 use Rattle.store_tables.specs.Conversion.{EachWith, IsLineAt}
 use Rattle.store_tables.specs.Looking.{meta_query}
@@ -46,7 +46,7 @@ IsFlagAt row at flag = (n : ℤ) × (column row at ≡ Int n) × (flag ≡ not (
 abbrev pub IsNumberAt : Row → ℕ → ℕ → Type 0
 IsNumberAt row at n = column row at ≡ Int (pos n)
 
--- the next number and the society, which stand behind the version
+-- the next number and the society, which stand after the version
 abbrev pub ShowsMeta : Row → ℕ × List ℕ → Type 0
 ShowsMeta row m = IsNumberAt row 1 m.0 × (column row 2 ≡ Words m.1)
 

@@ -2,7 +2,7 @@
 use Rattle.std.specs.Prelude.{[], ◌∷◌, pos}
 use Rattle.sqlite.specs.declared.types.Value.TheVariants.{Int, Text as Words}
 use Rattle.sqlite.specs.Order.{Row}
-use Rattle.packed_lines.specs.Packed.{packed}
+use Rattle.packed_rows.specs.Packed.{packed}
 use Rattle.store_tables.specs.Rows.{
   Rows,
   BatchRow,

@@ -3,7 +3,7 @@
 ghost use Rattle.std.specs.Prelude.{◌≡◌, IfSome, option_copied};
 ghost use Rattle.std.specs.List.{AllByRecursion};
 ghost use Rattle.sqlite.specs.Held.{state};
-ghost use Rattle.packed_lines.specs.Packed.{packed};
+ghost use Rattle.packed_rows.specs.Packed.{packed};
 ghost use Rattle.store_tables.specs.Calls.{LeavesAsBefore, Writes};
 ghost use Rattle.store_tables.specs.Conversion.{IsTop};
 ghost use Rattle.store_tables.specs.Reading.{IsTypedLine};
@@ -11,7 +11,7 @@ ghost use Rattle.store_tables.specs.Rows.{with_changed_lines, with_pack};
 
 use crate::rows;
 use crate::rows::named;
-use packed_lines::pack;
+use packed_rows::pack;
 use sqlite::{Alter, Error, Transaction, params};
 use std::alloc::Global;
 use stored_lines::StoredLine;

@@ -5,7 +5,7 @@ ghost use Rattle.std.specs.Prelude.{◌≡◌, ◌+◌, ◌++◌, Bool, flat_map
 ghost use Rattle.std.specs.List.{AllByRecursion};
 ghost use Rattle.sqlite.specs.Held.{state};
 ghost use Rattle.sqlite.specs.State.{HasCleanDisk};
-ghost use Rattle.packed_lines.specs.Packed.{packed};
+ghost use Rattle.packed_rows.specs.Packed.{packed};
 ghost use Rattle.record_text.specs.declared.refusal.RefusalKind.TheVariants.{OutOfMemory};
 ghost use Rattle.store_tables.specs.Calls.{IsNoOther, LeavesAsBefore, WritesDated};
 ghost use Rattle.store_tables.specs.Conversion.{IsTop};
@@ -23,7 +23,7 @@ use crate::pairs::integer_of;
 use crate::reading::{SELECT_SLIP_LINES, read_all};
 use crate::rows::{flag, named};
 use crate::stored::{SlipLineRow, SlipPackRow, SlipSide};
-use packed_lines::pack;
+use packed_rows::pack;
 use record_text::RefusalKind;
 use sqlite::{Alter, Connection, Error, Transaction, params};
 use std::alloc::{AllocError, Global};

@@ -89,7 +89,7 @@ use crate::stored::{
     BatchRow, LineRow, LinkRow, PackRow, ReceiptRow, RecordRow, SlipLineRow, SlipPackRow, SlipRow,
     SlipSide, SoughtRow, SpanRow,
 };
-use packed_lines::unpack;
+use packed_rows::unpack;
 use receipts::{Answer, Receipt, Token};
 use record_text::{RefusalKind, Tag, Text};
 use sqlite::types::FromSql;
@@ -123,7 +123,7 @@ pub(crate) fn from_rows<T: FromRow>(alloc: Global, rows: Vec<Row>) -> Result<Vec
     Ok(items)
 }
 
-/// Adds an item behind the others.
+/// Adds an item after the others.
 fn push<T: Drop>(items: &mut Vec<T>, item: T) -> Result<(), AllocError>
     ensures { OnOk result (items.new.items ≡ items.old.items ++ (item ∷ [])) }
 {

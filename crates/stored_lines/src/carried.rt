@@ -7,7 +7,7 @@ use record_text::{Tag, Text};
 use std::alloc::{AllocError, Global};
 use std::marker::Model;
 
-/// What stands on a line behind its tag.
+/// What stands on a line after its tag.
 #[derive(Drop)]
 pub enum Value {
     /// A text, which may be empty.

@@ -9,9 +9,9 @@ use Rattle.archive_state.specs.Content.{Content}
 use Rattle.devices.specs.declared.device.Device as device
 use Rattle.masking.specs.Hidden.{AreAlike}
 use Rattle.record_text.specs.declared.refusal.RefusalKind.{RefusalKind}
-use Rattle.shown_archives.specs.Showing.{IsShown}
-use Rattle.shown_archives.specs.Writing.{IsPartPublished, IsPublished, IsSheetRefused, IsSheetWritten}
-use Rattle.shown_archives.specs.declared.sheet.Sheet.{Sheet}
+use Rattle.archive_output.specs.Showing.{IsShown}
+use Rattle.archive_output.specs.Writing.{IsPartPublished, IsPublished, IsSheetRefused, IsSheetWritten}
+use Rattle.archive_output.specs.declared.sheet.Sheet.{Sheet}
 use Rattle.tasks.specs.Ends.{Ends, Publishes, PrintsSheet}
 use Rattle.tasks.specs.Hiding.{
   DifferInHidden,

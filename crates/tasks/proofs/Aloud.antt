@@ -24,7 +24,7 @@ use Rattle.sqlite_trees.specs.declared.store.Store.{Ghosts}
 use Rattle.devices.proofs.Begun.{all_begins, begins_none}
 use Rattle.devices.specs.Devices.{Rose}
 use Rattle.devices.specs.declared.device.Device as device
-use Rattle.file_imports.specs.Importing.{TellsImported}
+use Rattle.archive_input.specs.Importing.{TellsImported}
 use Rattle.staging.specs.Counts.{RowCount, TellsStages, after_stages}
 use Rattle.store.specs.Telling.{TellsImport}
 use Rattle.tasks.specs.Counts.{SaysCount, SaysOrStarves, SaysPart, count_line}

@@ -6,15 +6,15 @@ use Rattle.std.specs.declared.io.Write as write
 use Rattle.sqlite.specs.State.{State}
 use Rattle.sqlite_trees.specs.declared.store.Store.{Ghosts}
 use Rattle.archive_state.specs.Content.{Content}
-use Rattle.day_lists.specs.Ends.{AreCut, AreReversed, AreWritten}
+use Rattle.archive_output.specs.Ends.{AreCut, AreReversed, AreWritten}
 use Rattle.devices.specs.declared.device.Device as device
 use Rattle.record_text.specs.declared.refusal.RefusalKind.TheVariants.{WriteFailed}
-use Rattle.archive_exports.specs.Reading.{OnOpen}
+use Rattle.archive_output.specs.Reading.{OnOpen}
 use Rattle.store.specs.Archives.{HasArchive}
 use Rattle.store.specs.Histories.{has_broken}
-use Rattle.shown_archives.specs.Showing.{IsShown, OfSound}
-use Rattle.shown_archives.specs.Writing.{IsPartPublished, IsPublished, IsSheetRefused, IsSheetWritten}
-use Rattle.shown_archives.specs.declared.sheet.Sheet.{Sheet}
+use Rattle.archive_output.specs.Showing.{IsShown, OfSound}
+use Rattle.archive_output.specs.Writing.{IsPartPublished, IsPublished, IsSheetRefused, IsSheetWritten}
+use Rattle.archive_output.specs.declared.sheet.Sheet.{Sheet}
 use Rattle.tasks.specs.Ends.{HasWriteFailed, IsUntouched, ListsDays, LooksAt, OnHeld, OnSound, PrintsSheet, Publishes}
 use Rattle.tasks.specs.Moments.{Moment}
 use Rattle.tasks.specs.Parts.{Shelves}

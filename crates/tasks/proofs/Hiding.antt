@@ -2,7 +2,7 @@
 use Rattle.std.proofs.Common.{◌≡◌, ◌⊎◌, ◌∙◌, ℕ, List, inl, inr, sym, subst, Ok, Err}
 use Rattle.std.specs.Prelude.{Option, Result}
 use Rattle.record_text.specs.declared.refusal.RefusalKind.{RefusalKind}
-use Rattle.shown_archives.specs.Writing.{GotNoText, GotText}
+use Rattle.archive_output.specs.Writing.{GotNoText, GotText}
 use Rattle.tasks.specs.Hiding.{GotTheSame, HasFailed}
 
 pub both_got : (o : Result (List ℕ) RefusalKind) (x y v w : Option (List ℕ)) → GotText x y o → GotText v w o

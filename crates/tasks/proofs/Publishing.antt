@@ -1,7 +1,7 @@
 -- Why a public export was not written, of two of the same text.
 use Rattle.std.proofs.Common.{◌≡◌, ◌⊎◌, ◌∙◌, ◌<◌, true, false, true≢false, ℕ, List, arith, inl, inr, length, refl, sym}
 use Rattle.std.specs.Prelude.{Option}
-use Rattle.archive_view.specs.Looks.{is_failure, is_stop}
+use Rattle.archive_state.specs.Looks.{is_failure, is_stop}
 use Rattle.gedcom_export.specs.Ends.{IsReason, IsWhole}
 use Rattle.record_text.specs.declared.refusal.RefusalKind.{RefusalKind}
 use Rattle.record_text.specs.declared.refusal.RefusalKind.TheVariants.{
@@ -10,7 +10,7 @@ use Rattle.record_text.specs.declared.refusal.RefusalKind.TheVariants.{
   OutOfMemory,
   Storage,
 }
-use Rattle.shown_archives.specs.Writing.{IsCut}
+use Rattle.archive_output.specs.Writing.{IsCut}
 use Rattle.tasks.specs.Hiding.{HasFailed}
 
 -- what stops an export of an archive that was read before is want of memory

@@ -27,33 +27,33 @@ use Rattle.std.specs.declared.io.Write as write
 use Rattle.sqlite.specs.Held.{state}
 use Rattle.sqlite.specs.State.{HasCleanDisk, State}
 use Rattle.sqlite_trees.specs.declared.store.Store.{Ghosts}
-use Rattle.archive_audits.specs.Judging.{Audit, Judges, Tells, without_fault}
-use Rattle.archive_exports.specs.Exporting.{IsPart, export_text}
-use Rattle.archive_exports.specs.Reading.{OnOpen, OnlyReads, OnlyReadsAny}
+use Rattle.table_looks.specs.Judging.{Audit, Judges, Tells, without_fault}
+use Rattle.archive_output.specs.Exporting.{IsPart, export_text}
+use Rattle.archive_output.specs.Reading.{OnOpen, OnlyReads, OnlyReadsAny}
 use Rattle.archive_lists.specs.Ends.{EndsWriting, OnRead}
 use Rattle.archive_lists.specs.Texts.{list_text, shown_text}
 use Rattle.archive_state.specs.Content.{Content}
-use Rattle.archive_view.specs.Looks.{is_failure}
-use Rattle.batch_reading.specs.Input.{row_bytes}
-use Rattle.day_lists.specs.Ends.{AreCut, AreReversed, AreWritten}
+use Rattle.archive_state.specs.Looks.{is_failure}
+use Rattle.request_csv.specs.Input.{row_bytes}
+use Rattle.archive_output.specs.Ends.{AreCut, AreReversed, AreWritten}
 use Rattle.devices.specs.Devices.{Rose}
 use Rattle.devices.specs.declared.device.Device as device
-use Rattle.file_imports.specs.Importing.{ImportsAll, IsUntold, TellsImported}
-use Rattle.file_imports.specs.Telling.{import_text}
+use Rattle.archive_input.specs.Importing.{ImportsAll, IsUntold, TellsImported}
+use Rattle.archive_input.specs.Telling.{import_text}
 use Rattle.gedcom_export.specs.Ends.{IsWhole}
 use Rattle.receipts.specs.declared.answer.Answer.{Answer}
 use Rattle.receipts.specs.declared.report.ReportLine.{ReportLine}
 use Rattle.record_text.specs.declared.refusal.Refusal.{Refusal}
 use Rattle.record_text.specs.declared.refusal.RefusalKind.{RefusalKind}
 use Rattle.record_text.specs.declared.refusal.RefusalKind.TheVariants.{ReadFailed, Reopen, Storage, WriteFailed}
-use Rattle.shown_archives.specs.Showing.{OfSound}
-use Rattle.shown_archives.specs.Writing.{IsPartPublished, IsPublished, IsSheetRefused, IsSheetWritten}
-use Rattle.shown_archives.specs.declared.sheet.Sheet.{Sheet}
+use Rattle.archive_output.specs.Showing.{OfSound}
+use Rattle.archive_output.specs.Writing.{IsPartPublished, IsPublished, IsSheetRefused, IsSheetWritten}
+use Rattle.archive_output.specs.declared.sheet.Sheet.{Sheet}
 use Rattle.store.specs.Calls.{Reads}
 use Rattle.store.specs.Histories.{has_broken}
 use Rattle.store.specs.Telling.{TellsImport}
-use Rattle.tables.specs.Entering.{Enters, IsNoBatch}
-use Rattle.tables.specs.RowByRow.{AppliedInTurn, EndedInTurn, Moment as RowMoment}
+use Rattle.archive_input.specs.Entering.{Enters, IsNoBatch}
+use Rattle.archive_input.specs.RowByRow.{AppliedInTurn, EndedInTurn, Moment as RowMoment}
 use Rattle.tasks.specs.Counts.{SaysCount, SaysPart}
 use Rattle.tasks.specs.Moments.{Moment}
 use Rattle.tasks.specs.Parts.{IsPrintedPart, PrintsAudit, Shelves}

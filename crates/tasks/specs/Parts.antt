@@ -2,13 +2,13 @@
 use Rattle.std.specs.Prelude.{◌≡◌, ◌⊎◌, ℕ, ℤ, List, Option, None, Some, Ok, Err}
 use Rattle.std.specs.Io.KnownBytes.{Appends}
 use Rattle.sqlite.specs.State.{State}
-use Rattle.archive_audits.specs.Judging.{Audit}
-use Rattle.archive_exports.specs.Reading.{OnOpen}
+use Rattle.table_looks.specs.Judging.{Audit}
+use Rattle.archive_output.specs.Reading.{OnOpen}
 use Rattle.archive_state.specs.Content.{Content}
 use Rattle.devices.specs.Devices.{AppendsBeginning, Rose}
 use Rattle.record_text.specs.declared.refusal.RefusalKind.{RefusalKind}
 use Rattle.record_text.specs.declared.refusal.RefusalKind.TheVariants.{OutOfMemory, WriteFailed}
-use Rattle.shown_archives.specs.Showing.{IsShown, OfSound}
+use Rattle.archive_output.specs.Showing.{IsShown, OfSound}
 use Rattle.store_tables.specs.Looking.{IsFailure}
 use Rattle.tasks.specs.Status.{Outcome, placeless_text}
 use Rattle.tasks.specs.Texts.{sound_text}

@@ -4,8 +4,8 @@ ghost use Rattle.std.specs.Prelude.{◌≡◌, false, IfErr, IfOk, OnErr, OnOk, 
 ghost use Rattle.std.specs.Io.KnownBytes.{Appends};
 ghost use Rattle.sqlite.specs.Held.{state};
 ghost use Rattle.sqlite.specs.State.{HasCleanDisk};
-ghost use Rattle.archive_audits.specs.Judging.{Audit, without_fault};
-ghost use Rattle.archive_exports.specs.Reading.{OnlyReadsAny};
+ghost use Rattle.table_looks.specs.Judging.{Audit, without_fault};
+ghost use Rattle.archive_output.specs.Reading.{OnlyReadsAny};
 ghost use Rattle.devices.specs.Devices.{Rose};
 ghost use Rattle.store.specs.Histories.{has_broken};
 ghost use Rattle.tasks.specs.Ends.{IsAudit};
@@ -13,14 +13,14 @@ ghost use Rattle.tasks.specs.Parts.{IsPrintedPart, PrintsAudit};
 ghost use Rattle.tasks.specs.Texts.{sound_text};
 
 use crate::status::placeless;
-use archive_audits::Flaw;
-use archive_exports::write_text;
+use archive_output::write_text;
 use devices::{Device, write_bytes};
 use record_text::{RefusalKind, RefusalText};
 use sqlite::Alter;
 use std::alloc::{AllocError, Global};
 use std::io::{Cursor, Write};
 use store::Archive;
+use table_looks::Flaw;
 
 /// More bytes than the longest line of what breaks a rule has.
 const LINE: usize = 256;

@@ -4,8 +4,15 @@ ghost use Rattle.std.specs.Prelude.{◌≡◌, ◌⊎◌, Err, IfErr, IfOk, Ok, 
 ghost use Rattle.std.specs.Io.KnownBytes.{Appends, Keeps};
 ghost use Rattle.devices.specs.Devices.{Rose};
 ghost use Rattle.store.specs.Telling.{TellsImport};
-ghost use Rattle.file_imports.specs.Importing.{Imports, ImportsAll, ImportsSilently, IsNoFile, IsUntold, TellsImported};
-ghost use Rattle.file_imports.specs.Telling as telling;
+ghost use Rattle.archive_input.specs.Importing.{
+  Imports,
+  ImportsAll,
+  ImportsSilently,
+  IsNoFile,
+  IsUntold,
+  TellsImported,
+};
+ghost use Rattle.archive_input.specs.Telling as telling;
 ghost use Rattle.receipts.specs.declared.answer.Answer.{Answer as SpecAnswer};
 ghost use Rattle.receipts.specs.declared.report.ReportLine.{ReportLine as SpecLine};
 ghost use Rattle.record_text.specs.declared.refusal.RefusalKind.{RefusalKind as SpecKind};
@@ -16,21 +23,22 @@ ghost use Rattle.tasks.specs.Status.{placeless_text};
 
 use crate::progress::ProgressLines;
 use crate::status::placeless;
-use archive_exports::write_text;
+use archive_input::{import, import_text};
+use archive_output::write_text;
 use devices::Device;
-use file_imports::{import, import_text};
 use receipts::{Answer, Report, Token};
 use record_text::{Refusal, RefusalKind, RefusalText, Unit};
 use sqlite::Alter;
+use staging::Silent;
 use std::alloc::Global;
 use std::io::{Read, Write};
 use std::time::Clock;
-use store::{Archive, Silent};
+use store::Archive;
 
 /// Imports the file of the input under a token, and prints how many records were made, with the report of the file.
 /// With `progress` the faults get how far it is.
 ///
-/// Refusals as of `file_imports::import`, with the line; nothing is printed then. 95: the output failed. 1: no memory
+/// Refusals as of `archive_input::import`, with the line; nothing is printed then. 95: the output failed. 1: no memory
 /// was found for what is printed, or by the faults for a line of `progress`. At these two the file was imported, and a
 /// beginning may be printed.
 pub(crate) fn import_file<

@@ -5,9 +5,9 @@
 ghost use Rattle.std.specs.Prelude.{◌≡◌, ◌⊎◌, ℕ, ℤ, List, Option};
 ghost use Rattle.archive_state.specs.Content.{Content};
 ghost use Rattle.record_text.specs.declared.refusal.RefusalKind.{RefusalKind};
-ghost use Rattle.shown_archives.specs.Showing.{IsShown};
-ghost use Rattle.shown_archives.specs.Writing.{IsPartPublished, IsPublished, IsSheetRefused, IsSheetWritten};
-ghost use Rattle.shown_archives.specs.declared.sheet.Sheet.{Sheet};
+ghost use Rattle.archive_output.specs.Showing.{IsShown};
+ghost use Rattle.archive_output.specs.Writing.{IsPartPublished, IsPublished, IsSheetRefused, IsSheetWritten};
+ghost use Rattle.archive_output.specs.declared.sheet.Sheet.{Sheet};
 ghost use Rattle.tasks.specs.Ends.{Ends};
 ghost use Rattle.tasks.specs.Hiding.{DifferInHidden, EndAlike, GotTheSame, HasFailed, IsCutShort, IsOver, ShowsOn};
 ghost use Rattle.tasks.specs.Moments.{Moment};

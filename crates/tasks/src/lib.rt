@@ -1,8 +1,9 @@
 //! The tasks of the program on an archive that is open, over any store and any streams.
 //!
-//! It uses `tables` for rows of requests and entries, `file_imports` for files, `archive_exports`, `shown_archives`,
-//! `day_lists` and `archive_lists` for what is written of an archive, and `store`, whose archive all of them work on.
-//! It opens no file.
+//! It uses `archive_input` for rows of requests and entries, `archive_input` for files, `archive_output`,
+//! `archive_output`,
+//! `archive_output` and `archive_lists` for what is written of an archive, and `store`, whose archive all of them work
+//! on. It opens no file.
 //!
 //! Callers may rely on: `perform_task` ends as `Ends` says of the task, which has an arm for each: what was read, what
 //! was written, the status, and what the archive holds then.

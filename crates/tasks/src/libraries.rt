@@ -2,19 +2,19 @@
 
 ghost use Rattle.std.specs.Prelude.{◌≡◌, false};
 ghost use Rattle.sqlite.specs.Held.{state};
-ghost use Rattle.archive_exports.specs.Reading.{OnlyReadsAny};
+ghost use Rattle.archive_output.specs.Reading.{OnlyReadsAny};
 ghost use Rattle.tasks.specs.Parts.{Shelves};
 ghost use Rattle.tasks.specs.Status.{is_80};
 
 use crate::status::placeless;
+use archive_output::library_of;
 use record_text::RefusalText;
 use sheets::Library;
-use shown_archives::library_of;
 use sqlite::Alter;
 use std::alloc::Global;
 use store::Archive;
 
-/// What may be shown of the archive on a day, with its index. Refusals as of `shown_archives::library_of`.
+/// What may be shown of the archive on a day, with its index. Refusals as of `archive_output::library_of`.
 pub(crate) fn show_library<S: Alter>(
     alloc: Global,
     archive: &mut Archive<S>,

@@ -9,19 +9,17 @@ use crate::importing::import_file;
 use crate::libraries::show_library;
 use crate::status::{placeless, plain, status_of};
 use crate::task::Task;
-use archive_exports::write_archive;
+use archive_input::apply;
 use archive_lists::{write_list, write_shown};
-use day_lists::write_days;
+use archive_output::{write_archive, write_days, write_public, write_sheet};
 use devices::Device;
 use record_text::{RefusalKind, RefusalText};
 use sheets::Library;
-use shown_archives::{write_public, write_sheet};
 use sqlite::Alter;
 use std::alloc::Global;
 use std::io::{Read, Write};
 use std::time::Clock;
 use store::Archive;
-use tables::apply;
 
 /// Performs a task on an archive that is open, and gives the exit status: 0; or 1, after the line of the refusal on the
 /// faults. Of `Task::Library` also what may be shown. `clock` says when a line of progress is due.

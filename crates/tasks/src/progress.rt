@@ -6,9 +6,9 @@ ghost use Rattle.tasks.specs.Counts.{SaysAloud, SaysOrStarves, count_line};
 use arrayvec::ArrayString;
 use devices::{Device, TransferError, write_bytes};
 use itoa::Buffer;
+use staging::{Progress, RowCount};
 use std::io::Write;
 use std::time::{Clock, Instant};
-use store::{Progress, RowCount};
 
 /// More bytes than the longest line has: that of two numbers of 64 bits has 57.
 const LINE: usize = 64;

@@ -1,8 +1,8 @@
 //! What may be asked of an archive that is open.
 
-use finding::Wanted;
+use archive_output::Sheet;
 use receipts::Token;
-use shown_archives::Sheet;
+use searching::Wanted;
 
 /// What is asked of an archive that is open. Days are counted from 1970-01-01, day 0.
 #[derive(Debug, Drop)]

@@ -2,7 +2,9 @@
 //! byte decides a fault. A check of `gedcom_tree`; no part of the product.
 #![tactic(auto)]
 
-use gedcom_tree::{Counted, Forest, Node, TreeFault, TreeReader, read_up_to, write_forest};
+use devices::{Counted, read_up_to};
+use gedcom_rules::TreeFault;
+use gedcom_tree::{Forest, Node, TreeReader, write_forest};
 use std::alloc::{AllocError, Global};
 use std::io;
 use std::io::Write;
@@ -11,7 +13,7 @@ use std::process::ExitCode;
 /// The most bytes that are read: enough to be too many for a file.
 const LIMIT: usize = 67_108_865;
 
-/// The text of a forest, and the line of each node, those below it behind it; or the fault.
+/// The text of a forest, and the line of each node, those below it after it; or the fault.
 type Answer = Result<(Vec<u8>, Vec<u32>), TreeFault>;
 
 /// Appends the line of each node, and of those below it.
@@ -83,7 +85,7 @@ fn forest_of(alloc: Global, bytes: &[u8]) -> Result<Forest, TreeFault> {
     reader.finish()
 }
 
-/// The text with other line ends, and a blank line behind each line.
+/// The text with other line ends, and a blank line after each line.
 fn spelled_otherwise(alloc: Global, text: &[u8]) -> Result<Vec<u8>, AllocError> {
     let mut all = Vec::new(alloc);
     for byte in text {

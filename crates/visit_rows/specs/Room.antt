@@ -1,10 +1,10 @@
 -- What the room of these tests shows.
 use Rattle.std.specs.Prelude.{ℕ, List, ◌++◌, ◌%◌, ◌==◌, codes, decimal, Option, Some, None, if◌then◌else◌}
-use Rattle.room_routes.specs.Queries.{generations_of, value_of}
-use Rattle.room_routes.specs.declared.page.Page.{Page}
-use Rattle.room_routes.specs.declared.page.Page.TheVariants as page
-use Rattle.room_visits.specs.declared.pages.PageFound.{PageFound}
-use Rattle.room_visits.specs.declared.pages.PageFound.TheVariants as found
+use Rattle.room_requests.specs.Queries.{generations_of, value_of}
+use Rattle.room_requests.specs.declared.page.Page.{Page}
+use Rattle.room_requests.specs.declared.page.Page.TheVariants as page
+use Rattle.room_requests.specs.declared.pages.PageFound.{PageFound}
+use Rattle.room_requests.specs.declared.pages.PageFound.TheVariants as found
 
 -- the word and the number of a record, of which those with an odd number are shown
 abbrev pub record_page : List ℕ → ℕ → PageFound

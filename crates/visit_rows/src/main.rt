@@ -9,7 +9,7 @@ mod room;
 use crate::faulty::Faulty;
 use crate::room::TestRoom;
 use devices::Counted;
-use room_visits::{VisitError, answer_one};
+use room_requests::{VisitError, answer_one};
 use std::alloc::Global;
 use std::io::{self, BufRead, BufReader, BufWriter, ErrorKind, Write};
 

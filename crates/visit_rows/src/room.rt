@@ -1,11 +1,10 @@
 //! A room that shows the records of odd numbers, by a word and the number.
 
 ghost use Rattle.std.specs.Prelude.{◌≡◌, Some, IfOk, codes};
-ghost use Rattle.room_routes.specs.Queries.{value_of};
+ghost use Rattle.room_requests.specs.Queries.{value_of};
 ghost use Rattle.visit_rows.specs.Room.{record_page, pedigree_page, generations_page, surname_page};
 
-use room_routes::{Page, Query};
-use room_visits::{PageFound, PageText, Pages};
+use room_requests::{Page, PageFound, PageText, Pages, Query};
 use std::alloc::{AllocError, Global};
 
 /// The room of these tests.

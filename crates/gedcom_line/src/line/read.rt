@@ -66,7 +66,7 @@ fn past_gap(text: &str) -> Option<&str>
     if gap.is_empty() { None } else { Some(rest) }
 }
 
-/// A level and what follows the spaces behind it.
+/// A level and what follows the spaces after it.
 #[tactic(auto, unfolding(crate::specs::Reading::level_at))]
 fn level_of(text: &str) -> Option<(u8, &str)>
     ensures { option_map (λ x. (x.0, x.1.now)) result ≡ level_at text.now }
@@ -77,7 +77,7 @@ fn level_of(text: &str) -> Option<(u8, &str)>
     Some((level, rest))
 }
 
-/// A cross reference and what follows the spaces behind it.
+/// A cross reference and what follows the spaces after it.
 #[tactic(auto, unfolding(crate::specs::Reading::xref_at))]
 fn xref_of(text: &str) -> Option<(Option<&str>, &str)>
     ensures { option_map (λ x. (option_map (λ s. s.now) x.0, x.1.now)) result ≡ xref_at text.now }
@@ -91,7 +91,7 @@ fn xref_of(text: &str) -> Option<(Option<&str>, &str)>
     }
 }
 
-/// The cross reference at the front of `text`, and what follows the spaces behind it.
+/// The cross reference at the front of `text`, and what follows the spaces after it.
 fn named<'a>(text: &'a str, inner: &'a str) -> Option<(&'a str, &'a str)>
     requires { text.now ≡ 64 ∷ inner.now }
     ensures { option_map (λ x. (Some x.0.now, x.1.now)) result ≡ named_at text.now inner.now }

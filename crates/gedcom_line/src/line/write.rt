@@ -56,7 +56,7 @@ fn push_raw(out: &mut String, raw: &str) -> Result<(), AllocError>
     out.push_str(raw)
 }
 
-/// Writes a line with its LF behind `out`, `raw` as it stands. Where memory is refused, `out` has got a
+/// Writes a line with its LF after `out`, `raw` as it stands. Where memory is refused, `out` has got a
 /// beginning of the line.
 #[tactic(auto, unfolding(crate::specs::Spelling::spelling))]
 pub fn write_line(

@@ -14,7 +14,8 @@ ghost use Rattle.store_rows.specs.Links.{
 
 use super::Unwritten;
 use archive_state::Numbered;
-use records::{Record, lines_of};
+use record_kinds::Record;
+use records::lines_of;
 use sqlite::{Alter, Error, Transaction};
 use std::alloc::Global;
 use store_tables::{LinkRow, links};

@@ -20,7 +20,8 @@ ghost use Rattle.store_rows.specs.Writing.{
 
 use super::Unwritten;
 use archive_state::Numbered;
-use records::{Record, lines_of};
+use record_kinds::Record;
+use records::lines_of;
 use sqlite::{Alter, Error, Transaction};
 use std::alloc::Global;
 use store_tables::lines::change_lines;

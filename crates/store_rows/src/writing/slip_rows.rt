@@ -12,7 +12,8 @@ ghost use Rattle.store_rows.specs.Writing.{new_sides_stored, sides_stored, with_
 
 use super::Unwritten;
 use archive_state::{Change, Slip, SlipChange};
-use records::{Record, lines_of};
+use record_kinds::Record;
+use records::lines_of;
 use sqlite::{Alter, Transaction};
 use std::alloc::{AllocError, Global};
 use store_tables::records::undo_slip;

@@ -14,7 +14,8 @@ ghost use Rattle.store_rows.specs.Sought.{
 
 use super::Unwritten;
 use archive_state::Numbered;
-use records::{Entry, Record, entry_key};
+use record_kinds::{Entry, Record};
+use records::entry_key;
 use sqlite::{Alter, Error, Transaction};
 use std::alloc::Global;
 use store_tables::soughts;

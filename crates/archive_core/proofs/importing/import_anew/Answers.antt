@@ -1,7 +1,7 @@
 use Rattle.std.proofs.Common.{sym, subst}
-use Rattle.archive_looks.specs.Exact.{IsExact}
+use Rattle.command_checks.specs.Exact.{IsExact}
 use Rattle.archive_steps.proofs.Exactness.{kept_is_exact}
-use Rattle.import_steps.specs.Imports.{OnlyAdds}
+use Rattle.imports.specs.Imports.{OnlyAdds}
 use Rattle.archive_core.proofs.Adding.{kept_adds}
 use Rattle.archive_core.proofs.importing.import_anew.Goals as goal
 

@@ -1,4 +1,4 @@
-use Rattle.archive_looks.proofs.SaidPaths.{said_by_path}
+use Rattle.command_checks.proofs.SaidPaths.{said_by_path}
 use Rattle.archive_core.proofs.laws.a_said_place_has_a_part.Goals as goal
 
 pub returns : goal.returns

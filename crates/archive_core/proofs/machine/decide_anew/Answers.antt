@@ -1,5 +1,5 @@
 use Rattle.std.proofs.Common.{sym, subst}
-use Rattle.archive_looks.specs.Exact.{IsExact}
+use Rattle.command_checks.specs.Exact.{IsExact}
 use Rattle.archive_steps.proofs.Exactness.{kept_is_exact}
 use Rattle.archive_core.proofs.machine.decide_anew.Goals as goal
 

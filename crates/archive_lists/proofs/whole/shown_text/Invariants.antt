@@ -1,6 +1,6 @@
 use Rattle.std.proofs.Common.{◌≡◌, ◌≤◌, take, string_bytes}
 use Rattle.std.specs.Prelude.{option_map}
-use Rattle.archive_view.specs.Looks.{OnView}
+use Rattle.archive_state.specs.Looks.{OnView}
 use Rattle.archive_lists.specs.Texts as texts
 use Rattle.archive_lists.proofs.whole.shown_text.Given as goal
 

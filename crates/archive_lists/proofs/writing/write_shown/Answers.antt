@@ -2,11 +2,11 @@ use Rattle.std.proofs.Common.{◌≡◌, ◌∙◌, ℕ, List, ap, string_bytes,
 use Rattle.std.specs.Prelude.{Option, option_map}
 use Rattle.sqlite.specs.Held.{state}
 use Rattle.archive_state.specs.Content.{Content}
-use Rattle.archive_view.specs.Looks.{Looked}
+use Rattle.archive_state.specs.Looks.{Looked}
 use Rattle.store.specs.Standing.{asked_by, standing}
 use Rattle.store_tables.proofs.Queries.{only_committed}
-use Rattle.archive_exports.proofs.Calls.{aside_stays, moved, reads_of}
-use Rattle.archive_exports.proofs.Exported.{stays_viewed}
+use Rattle.archive_output.proofs.Calls.{aside_stays, moved, reads_of}
+use Rattle.archive_output.proofs.Exported.{stays_viewed}
 use Rattle.archive_lists.specs.Ends.{EndsWriting, OnRead}
 use Rattle.archive_lists.specs.Texts as texts
 use Rattle.archive_lists.proofs.Looked.{ended_by}

@@ -1,7 +1,7 @@
 use Rattle.std.proofs.Common.{sym, subst, false, ◌∙◌}
 use Rattle.std.specs.Prelude.{IfOk, MatchOption}
 use Rattle.record_shapes.specs.Lists.{Ascends}
-use Rattle.known_records.specs.Knowing.{HasAll}
+use Rattle.sound_records.specs.Knowing.{HasAll}
 use Rattle.sound_records.specs.Parts.{AreWhole, IsBreach}
 use Rattle.archive_state.proofs.MapKeys.{keys_ascend}
 use Rattle.audit.proofs.Whole.{has_all}

@@ -3,7 +3,7 @@ use Rattle.std.specs.Prelude.{IfSome, None, MatchOption}
 use Rattle.std.specs.FinMap.{get}
 use Rattle.archive_state.specs.Slips.{Slip}
 use Rattle.archive_state.specs.Sound.{IsPerson, IsSoundSlip}
-use Rattle.sound_slips.specs.Parts.{BreaksSlip}
+use Rattle.audit.specs.Parts.{BreaksSlip}
 use Rattle.audit.proofs.Whole.{not_there, there}
 use Rattle.audit.proofs.slips.broken_by.Goals as goal
 

@@ -1,5 +1,5 @@
 use Rattle.std.proofs.Common.{◌∙◌, ◌<◌, ap, arith, length, rules, sym}
-use Rattle.unit_lines.proofs.FirstLines.{empty, none}
+use Rattle.character_sets.proofs.FirstLines.{empty, none}
 use Rattle.conversion_reports.specs.Hints.{unlike_line}
 use Rattle.conversion_reports.proofs.hints.unlike_line.Goals as goal
 

@@ -1,5 +1,5 @@
 use Rattle.std.proofs.Common.{◌≡◌, length}
-use Rattle.unit_lines.specs.Lines.{lines}
+use Rattle.character_sets.specs.Lines.{lines}
 use Rattle.conversion_reports.specs.Hints.{unlike_line}
 use Rattle.conversion_reports.proofs.hints.unlike_line.Given as goal
 

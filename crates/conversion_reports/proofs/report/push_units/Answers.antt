@@ -1,5 +1,5 @@
 use Rattle.std.proofs.Common.{◌∙◌, ap}
-use Rattle.unit_lines.specs.Lines.{lines}
+use Rattle.character_sets.specs.Lines.{lines}
 use Rattle.file_conversion.specs.Charsets.{said_in}
 use Rattle.conversion_reports.proofs.Pieces.{units_is}
 use Rattle.conversion_reports.proofs.report.push_units.Goals as goal

@@ -1,5 +1,5 @@
 use Rattle.std.proofs.Common.{◌<◌, ap, arith, length, rules}
-use Rattle.unit_lines.specs.Lines.{lines}
+use Rattle.character_sets.specs.Lines.{lines}
 use Rattle.conversion_reports.specs.Lines.{lines_read, marks}
 use Rattle.conversion_reports.proofs.Counting.{begun, ended}
 use Rattle.conversion_reports.proofs.tallies.tally_of.Goals as goal

@@ -1,5 +1,5 @@
 use Rattle.std.proofs.Common.{◌+◌, ◌≤◌, [], length}
-use Rattle.unit_lines.specs.Lines.{lines}
+use Rattle.character_sets.specs.Lines.{lines}
 use Rattle.conversion_reports.specs.Lines.{Leads, lines_read, marks}
 use Rattle.conversion_reports.proofs.tallies.tally_of.Given as goal
 

@@ -1,5 +1,5 @@
 use Rattle.std.proofs.Common.{◌≡◌, ◌+◌, ◌≤◌, ◌++◌, [], length}
-use Rattle.unit_lines.specs.Lines.{lines}
+use Rattle.character_sets.specs.Lines.{lines}
 use Rattle.conversion_reports.specs.Lines.{lines_read}
 use Rattle.conversion_reports.specs.Report.{read_lines}
 use Rattle.conversion_reports.proofs.written.push_lines.Given as goal

@@ -1,6 +1,6 @@
 -- At each turn, what is left leads from what is made to where all rows lead.
 use Rattle.std.proofs.Common.{◌≡◌, ◌≤◌}
-use Rattle.archive_view.specs.Looks.{OnView}
+use Rattle.archive_state.specs.Looks.{OnView}
 use Rattle.entry_batches.proofs.Rows.{LeadsOn}
 use Rattle.entry_batches.proofs.batch.with_rows.Given as goal
 

@@ -1,5 +1,5 @@
 use Rattle.std.proofs.Common.{◌≡◌, ◌+◌, ap}
-use Rattle.archive_view.specs.Looks.{Agrees, is_stop}
+use Rattle.archive_state.specs.Looks.{Agrees, is_stop}
 use Rattle.entry_batches.specs.Batches.{row_entry, with_row}
 use Rattle.entry_batches.proofs.Rows.{stops, row_counts, row_right, view_weaker}
 use Rattle.entry_batches.proofs.row.with_row.Goals as goal

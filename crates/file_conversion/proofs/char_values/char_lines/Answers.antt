@@ -1,7 +1,7 @@
 use Rattle.std.proofs.Common.{◌∙◌, ◌<◌, ◌++◌, ap, arith, length, rules, sym}
 use Rattle.std.proofs.lemmas.List.{append-nil}
 use Rattle.file_conversion.specs.CharLines.{numbers_in, words_in}
-use Rattle.unit_lines.proofs.FirstLines.{none}
+use Rattle.character_sets.proofs.FirstLines.{none}
 use Rattle.file_conversion.proofs.char_values.char_lines.Goals as goal
 
 pub returns-clause-changed : goal.returns-clause-changed

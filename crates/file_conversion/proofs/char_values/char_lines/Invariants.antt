@@ -1,5 +1,5 @@
 use Rattle.std.proofs.Common.{◌≡◌, ◌+◌, ◌≤◌, ◌++◌, length}
-use Rattle.unit_lines.specs.Lines.{lines}
+use Rattle.character_sets.specs.Lines.{lines}
 use Rattle.file_conversion.specs.CharLines.{numbers_in, numbers_of, words_in, words_of}
 use Rattle.file_conversion.proofs.char_values.char_lines.Given as goal
 

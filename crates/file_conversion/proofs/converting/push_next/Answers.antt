@@ -1,4 +1,4 @@
-use Rattle.unit_lines.specs.Lines.{lines}
+use Rattle.character_sets.specs.Lines.{lines}
 use Rattle.file_conversion.proofs.Written.{next_text, no_next}
 use Rattle.file_conversion.proofs.converting.push_next.Goals as goal
 

@@ -2,7 +2,7 @@ use Rattle.std.proofs.Common.{◌∙◌, ◌<◌, ◌++◌, ap, arith, length, r
 use Rattle.std.proofs.lemmas.List.{append-nil}
 use Rattle.file_conversion.specs.Conversion.{text_of_lines}
 use Rattle.file_conversion.specs.Streams.{NoText}
-use Rattle.unit_lines.proofs.FirstLines.{none}
+use Rattle.character_sets.proofs.FirstLines.{none}
 use Rattle.file_conversion.proofs.converting.text_of_units.Goals as goal
 
 pub lines-preserved : goal.lines-preserved

@@ -1,5 +1,5 @@
 use Rattle.std.proofs.Common.{◌≡◌, ◌≤◌, ◌++◌, length, string_bytes}
-use Rattle.unit_lines.specs.Lines.{lines}
+use Rattle.character_sets.specs.Lines.{lines}
 use Rattle.file_conversion.specs.Conversion.{text_of_lines, text_of_units}
 use Rattle.file_conversion.proofs.converting.text_of_units.Given as goal
 

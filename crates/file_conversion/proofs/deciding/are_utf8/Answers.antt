@@ -1,6 +1,6 @@
 use Rattle.std.proofs.Common.{◌∙◌, ◌<◌, ap, arith, length, rules, sym}
 use Rattle.file_conversion.specs.Conversion.{are_whole}
-use Rattle.unit_lines.proofs.FirstLines.{none}
+use Rattle.character_sets.proofs.FirstLines.{none}
 use Rattle.file_conversion.proofs.deciding.are_utf8.Goals as goal
 
 pub returns : goal.returns

@@ -1,5 +1,5 @@
 use Rattle.std.proofs.Common.{◌≡◌, length}
-use Rattle.unit_lines.specs.Lines.{lines}
+use Rattle.character_sets.specs.Lines.{lines}
 use Rattle.file_conversion.specs.Conversion.{are_whole, is_utf8}
 use Rattle.file_conversion.proofs.deciding.are_utf8.Given as goal
 

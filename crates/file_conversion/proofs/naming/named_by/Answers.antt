@@ -1,7 +1,7 @@
 use Rattle.std.proofs.Common.{◌∙◌, ◌<◌, ap, arith, length, rules, sym}
-use Rattle.unit_lines.specs.Lines.{lines}
+use Rattle.character_sets.specs.Lines.{lines}
 use Rattle.file_conversion.specs.Charsets.{named_in}
-use Rattle.unit_lines.proofs.FirstLines.{none}
+use Rattle.character_sets.proofs.FirstLines.{none}
 use Rattle.file_conversion.proofs.naming.named_by.Goals as goal
 
 pub lines-preserved : goal.lines-preserved

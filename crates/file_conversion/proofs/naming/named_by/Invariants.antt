@@ -1,5 +1,5 @@
 use Rattle.std.proofs.Common.{◌≡◌, ◌+◌, ◌≤◌, length}
-use Rattle.unit_lines.specs.Lines.{lines}
+use Rattle.character_sets.specs.Lines.{lines}
 use Rattle.file_conversion.specs.Charsets.{named_by, named_in}
 use Rattle.file_conversion.proofs.naming.named_by.Given as goal
 

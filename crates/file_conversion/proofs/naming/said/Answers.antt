@@ -1,7 +1,7 @@
 use Rattle.std.proofs.Common.{◌∙◌, ◌<◌, ◌++◌, ap, arith, length, rules, sym}
 use Rattle.std.proofs.lemmas.List.{append-nil}
 use Rattle.file_conversion.specs.Charsets.{said_in}
-use Rattle.unit_lines.proofs.FirstLines.{none}
+use Rattle.character_sets.proofs.FirstLines.{none}
 use Rattle.file_conversion.proofs.naming.said.Goals as goal
 
 pub returns : goal.returns

@@ -1,5 +1,5 @@
 use Rattle.std.proofs.Common.{◌≡◌, ◌++◌, length}
-use Rattle.unit_lines.specs.Lines.{lines}
+use Rattle.character_sets.specs.Lines.{lines}
 use Rattle.file_conversion.specs.Charsets.{said_in}
 use Rattle.file_conversion.specs.declared.charsets.Place.TheVariants.{Start}
 use Rattle.file_conversion.proofs.naming.said.Given as goal

@@ -1,4 +1,4 @@
-use Rattle.export_index.specs.Shown.{names_in}
+use Rattle.gedcom_export.specs.Shown.{names_in}
 use Rattle.gedcom_export.proofs.Lines.{cited, cited_all, lines_done, then_lines}
 use Rattle.gedcom_export.proofs.owned.push_citations.Goals as goal
 

@@ -1,7 +1,7 @@
 use Rattle.std.proofs.Common.{◌≡◌, ◌++◌, drop, string_bytes}
 use Rattle.std.specs.List.{flat_map}
-use Rattle.record_nodes.specs.Pages.{page}
-use Rattle.export_index.specs.Shown.{names_in}
+use Rattle.node_writing.specs.Pages.{page}
+use Rattle.gedcom_export.specs.Shown.{names_in}
 use Rattle.gedcom_export.proofs.Lines.{cited}
 use Rattle.gedcom_export.proofs.owned.push_citations.Given as goal
 

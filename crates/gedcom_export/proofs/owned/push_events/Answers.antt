@@ -1,4 +1,4 @@
-use Rattle.export_index.specs.Shown.{names_in}
+use Rattle.gedcom_export.specs.Shown.{names_in}
 use Rattle.gedcom_export.proofs.Lines.{evented, evented_all, lines_done, then_lines}
 use Rattle.gedcom_export.proofs.owned.push_events.Goals as goal
 

@@ -3,8 +3,8 @@ use Rattle.stored_lines.specs.declared.carried.Value.TheVariants as value
 use Rattle.record_fields.specs.Words.{entry_kind_word}
 use Rattle.record_kinds.specs.Model as model
 use Rattle.record_shapes.specs.Shapes.{line}
-use Rattle.record_nodes.specs.Pages.{record_page}
-use Rattle.export_index.specs.Shown.{names_in}
+use Rattle.node_writing.specs.Pages.{record_page}
+use Rattle.gedcom_export.specs.Shown.{names_in}
 use Rattle.gedcom_export.proofs.Parted.{simple_page}
 use Rattle.gedcom_export.proofs.page.push_entry_page.Goals as goal
 use Rattle.list_laws.proofs.Outcomes.{ok_then}

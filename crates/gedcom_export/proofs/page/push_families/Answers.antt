@@ -1,7 +1,7 @@
 use Rattle.std.proofs.Common.{◌++◌, ap, string_bytes, ◌∙◌}
 use Rattle.stored_lines.specs.Line.{Lines}
-use Rattle.record_nodes.specs.Pages.{page}
-use Rattle.export_index.specs.Shown.{names_in}
+use Rattle.node_writing.specs.Pages.{page}
+use Rattle.gedcom_export.specs.Shown.{names_in}
 use Rattle.node_writing.proofs.Appending.{all_written, then_next}
 use Rattle.gedcom_export.proofs.Lines.{membership_line, membership_lines}
 use Rattle.gedcom_export.proofs.page.push_families.Goals as goal

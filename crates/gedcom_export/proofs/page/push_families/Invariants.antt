@@ -1,6 +1,6 @@
 use Rattle.std.proofs.Common.{◌≡◌, ◌++◌, map, drop, string_bytes}
-use Rattle.record_nodes.specs.Pages.{page}
-use Rattle.export_index.specs.Shown.{names_in}
+use Rattle.node_writing.specs.Pages.{page}
+use Rattle.gedcom_export.specs.Shown.{names_in}
 use Rattle.gedcom_export.proofs.Lines.{membership_line}
 use Rattle.gedcom_export.proofs.page.push_families.Given as goal
 

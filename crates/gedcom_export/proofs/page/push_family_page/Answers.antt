@@ -1,8 +1,8 @@
 use Rattle.std.proofs.Common.{◌++◌, ap, string_bytes, ◌∙◌}
 use Rattle.stored_lines.specs.Line.{Lines}
 use Rattle.record_kinds.specs.Model as model
-use Rattle.record_nodes.specs.Pages.{page}
-use Rattle.export_index.specs.Shown.{names_in}
+use Rattle.node_writing.specs.Pages.{page}
+use Rattle.gedcom_export.specs.Shown.{names_in}
 use Rattle.gedcom_export.proofs.Parted.{family_page}
 use Rattle.gedcom_export.proofs.page.push_family_page.Goals as goal
 

@@ -1,9 +1,9 @@
 use Rattle.std.proofs.Common.{◌++◌, ap, map, string_bytes, ◌∙◌}
 use Rattle.stored_lines.specs.Line.{Lines}
 use Rattle.record_kinds.specs.Model as model
-use Rattle.record_nodes.specs.Pages.{page}
-use Rattle.export_index.specs.Shown.{names_in}
-use Rattle.export_index.specs.declared.membership.Membership.{Membership}
+use Rattle.node_writing.specs.Pages.{page}
+use Rattle.gedcom_export.specs.Shown.{names_in}
+use Rattle.gedcom_export.specs.declared.membership.Membership.{Membership}
 use Rattle.gedcom_export.proofs.Parted.{person_page}
 use Rattle.gedcom_export.proofs.page.push_person_page.Goals as goal
 

@@ -1,4 +1,4 @@
-use Rattle.export_index.specs.Shown.{names_in}
+use Rattle.gedcom_export.specs.Shown.{names_in}
 use Rattle.gedcom_export.proofs.Parted.{simple_page}
 use Rattle.gedcom_export.proofs.page.push_repo_page.Goals as goal
 use Rattle.list_laws.proofs.Outcomes.{ok_then}

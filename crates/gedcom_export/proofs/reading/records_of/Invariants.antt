@@ -1,6 +1,6 @@
 use Rattle.std.proofs.Common.{◌≡◌, ◌≤◌, take}
 use Rattle.std.specs.FinMap as map
-use Rattle.archive_view.specs.Looks.{OnView}
+use Rattle.archive_state.specs.Looks.{OnView}
 use Rattle.gedcom_export.specs.Kept.{kept_of}
 use Rattle.gedcom_export.proofs.reading.records_of.Given as goal
 

@@ -1,7 +1,7 @@
 use Rattle.std.proofs.Common.{ap, inl}
 use Rattle.gedcom_tree.specs.Text.{text}
 use Rattle.archive_state.specs.Content.{Records}
-use Rattle.export_forest.specs.Forest.{exported}
+use Rattle.gedcom_export.specs.Forest.{exported}
 use Rattle.gedcom_export.proofs.Moving.{same_ends}
 use Rattle.gedcom_export.proofs.writing.write_all.Goals as goal
 use Rattle.devices.proofs.Begun.{begins_none}

@@ -1,7 +1,7 @@
 use Rattle.std.proofs.Common.{◌≡◌, ◌++◌, [], List, ℕ, Err, append-nil, refl, rules, sym}
 use Rattle.gedcom_tree.specs.Text.{line_text, trailer}
-use Rattle.record_nodes.specs.Header.{header}
-use Rattle.record_nodes.specs.Pages.{nodes_text}
+use Rattle.node_writing.specs.Header.{header}
+use Rattle.node_writing.specs.Pages.{nodes_text}
 use Rattle.gedcom_export.specs.Pieces.{kinds_text, ranks}
 use Rattle.gedcom_export.proofs.Moving.{at_end, at_start, by_result, ends_between, halts_early, one_further}
 use Rattle.gedcom_export.proofs.writing.write_parts.Goals as goal

@@ -1,6 +1,6 @@
 use Rattle.std.proofs.Common.{inl, refl}
 use Rattle.gedcom_tree.specs.Text.{text}
-use Rattle.export_forest.specs.Forest.{exported}
+use Rattle.gedcom_export.specs.Forest.{exported}
 use Rattle.gedcom_export.specs.Pieces.{whole_text}
 use Rattle.gedcom_export.proofs.Households.{whole_same}
 use Rattle.gedcom_export.proofs.Moving.{same_ends}

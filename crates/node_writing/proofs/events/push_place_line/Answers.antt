@@ -1,6 +1,6 @@
 use Rattle.std.proofs.Common.{◌∙◌, ◌++◌, ◌∷◌, [], ℕ, List, ap, codes, string_bytes}
 use Rattle.record_shapes.specs.Shapes.{text_line}
-use Rattle.record_nodes.specs.Pages.{page}
+use Rattle.node_writing.specs.Pages.{page}
 use Rattle.node_writing.proofs.Appending.{then_below}
 use Rattle.node_writing.proofs.events.push_place_line.Goals as goal
 use Rattle.list_laws.proofs.Outcomes.{ok_then}

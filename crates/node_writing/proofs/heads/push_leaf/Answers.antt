@@ -1,6 +1,6 @@
 use Rattle.std.specs.Prelude.{None}
 use Rattle.gedcom_line.specs.Value.{Text}
-use Rattle.record_nodes.proofs.Pages.{nodes-bare}
+use Rattle.node_writing.proofs.Pages.{nodes-bare}
 use Rattle.node_writing.proofs.heads.push_leaf.Goals as goal
 
 pub returns : goal.returns

@@ -1,7 +1,7 @@
 use Rattle.std.proofs.Common.{◌∙◌, ◌++◌, ℕ, List, [], Some, ap, codes, string_bytes, sym}
 use Rattle.gedcom_line.specs.Value.{Text}
-use Rattle.record_nodes.specs.Nodes.{Mark}
-use Rattle.record_nodes.proofs.Pages.{nodes-bare}
+use Rattle.node_writing.specs.Nodes.{Mark}
+use Rattle.node_writing.proofs.Pages.{nodes-bare}
 use Rattle.node_writing.proofs.Appending.{then_nodes_below}
 use Rattle.node_writing.proofs.heads.push_submitter.Goals as goal
 use Rattle.list_laws.proofs.Outcomes.{ok_then}

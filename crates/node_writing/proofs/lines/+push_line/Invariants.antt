@@ -1,7 +1,7 @@
 use Rattle.std.proofs.Common.{◌≡◌, ◌++◌, ◌+◌, ◌≤◌, ◌∷◌, [], drop, string_bytes}
 use Rattle.stored_lines.specs.Tree.{forest_of}
 use Rattle.stored_lines.specs.Levels.{forest_levels}
-use Rattle.record_nodes.specs.Pages.{page}
+use Rattle.node_writing.specs.Pages.{page}
 use Rattle.node_writing.proofs.lines.+push_line.Given as goal
 
 abbrev pub decreases-push_line : goal.decreases-push_line

@@ -1,5 +1,5 @@
 use Rattle.std.proofs.Common.{◌≡◌, ◌++◌, drop, string_bytes}
-use Rattle.record_nodes.specs.Pages.{page}
+use Rattle.node_writing.specs.Pages.{page}
 use Rattle.node_writing.proofs.lines.push_carried.Given as goal
 
 abbrev pub invariant-lines : goal.invariant-lines

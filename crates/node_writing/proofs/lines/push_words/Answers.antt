@@ -1,5 +1,5 @@
 use Rattle.stored_lines.specs.declared.carried.Value.TheVariants as value
-use Rattle.record_nodes.proofs.Pages.{page-bare}
+use Rattle.node_writing.proofs.Pages.{page-bare}
 use Rattle.node_writing.proofs.lines.push_words.Goals as goal
 
 pub returns : goal.returns

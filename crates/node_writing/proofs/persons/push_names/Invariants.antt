@@ -1,6 +1,6 @@
 use Rattle.std.proofs.Common.{◌≡◌, ◌++◌, map, drop, string_bytes}
 use Rattle.record_shapes.specs.Shapes.{name_line}
-use Rattle.record_nodes.specs.Pages.{page}
+use Rattle.node_writing.specs.Pages.{page}
 use Rattle.node_writing.proofs.persons.push_names.Given as goal
 
 abbrev pub invariant-names : goal.invariant-names

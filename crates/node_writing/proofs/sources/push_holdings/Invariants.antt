@@ -1,6 +1,6 @@
 use Rattle.std.proofs.Common.{◌≡◌, ◌++◌, map, drop, string_bytes}
 use Rattle.record_shapes.specs.Shapes.{holding_line}
-use Rattle.record_nodes.specs.Pages.{page}
+use Rattle.node_writing.specs.Pages.{page}
 use Rattle.node_writing.proofs.sources.push_holdings.Given as goal
 
 abbrev pub invariant-holdings : goal.invariant-holdings

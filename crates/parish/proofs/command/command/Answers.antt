@@ -8,7 +8,7 @@ use Rattle.command_line.specs.declared.tasks.Asked.TheVariants as asked
 use Rattle.command_line.specs.declared.tasks.Refused.{Refused}
 use Rattle.command_line.specs.declared.tasks.Refused.TheVariants.{OutOfMemory, Words}
 use Rattle.sqlite_wal.specs.Files.{image_at}
-use Rattle.database_files.specs.declared.left.Left.TheVariants.{Untouched}
+use Rattle.archive_files.specs.declared.left.Left.TheVariants.{Untouched}
 use Rattle.record_text.specs.declared.refusal.RefusalText.{RefusalText}
 use Rattle.tasks.specs.Status.{Finishes}
 use Rattle.parish.specs.Doing.{tells}

@@ -1,5 +1,5 @@
 use Rattle.std.proofs.Common.{[], inl, inr, subst, sym}
-use Rattle.runs_on_files.specs.Seeing.{IsSeenAs}
+use Rattle.archive_runs.specs.Seeing.{IsSeenAs}
 use Rattle.parish.proofs.Carrying.{is_run, unwritten}
 use Rattle.parish.proofs.laws.what_is_asked_for_loses_nothing.Goals as goal
 

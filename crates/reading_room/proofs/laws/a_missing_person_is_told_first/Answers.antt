@@ -1,4 +1,4 @@
-use Rattle.room_routes.specs.Queries.{generations_of}
+use Rattle.room_requests.specs.Queries.{generations_of}
 use Rattle.reading_room.proofs.Missing.{no_pedigree}
 use Rattle.reading_room.proofs.laws.a_missing_person_is_told_first.Goals as goal
 

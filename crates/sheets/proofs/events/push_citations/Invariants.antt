@@ -1,7 +1,7 @@
 use Rattle.std.proofs.Common.{◌≡◌, ◌++◌, take, string_bytes}
 use Rattle.std.specs.FinMap as map
 use Rattle.std.specs.List.{flat_map}
-use Rattle.export_index.specs.declared.owned.Owned as owned
+use Rattle.gedcom_export.specs.declared.index_owned.Owned as owned
 use Rattle.sheets.specs.Owned as texts
 use Rattle.sheets.proofs.events.push_citations.Given as goal
 

@@ -1,6 +1,6 @@
 use Rattle.std.proofs.Common.{◌≡◌, ◌++◌, take, string_bytes}
 use Rattle.std.specs.List.{flat_map}
-use Rattle.export_index.specs.declared.membership.Membership as membership
+use Rattle.gedcom_export.specs.declared.membership.Membership as membership
 use Rattle.sheet_lines.specs.Lines as lines
 use Rattle.sheets.proofs.persons.push_children_in.Given as goal
 

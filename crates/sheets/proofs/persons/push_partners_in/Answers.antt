@@ -1,5 +1,5 @@
 use Rattle.std.proofs.Common.{string_bytes}
-use Rattle.export_index.specs.declared.membership.Membership as membership
+use Rattle.gedcom_export.specs.declared.membership.Membership as membership
 use Rattle.sheet_lines.specs.Lines as lines
 use Rattle.sheets.proofs.Appending.{then_next}
 use Rattle.sheets.proofs.persons.push_partners_in.Goals as goal

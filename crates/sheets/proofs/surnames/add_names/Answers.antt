@@ -1,5 +1,5 @@
-use Rattle.surname_index.specs.Numbers.{under}
-use Rattle.surname_index.proofs.Kept.{then_name}
+use Rattle.sheet_lines.specs.Numbers.{under}
+use Rattle.sheet_lines.proofs.Kept.{then_name}
 use Rattle.sheets.specs.Pages.{has_key}
 use Rattle.sheets.proofs.surnames.add_names.Goals as goal
 

@@ -1,6 +1,6 @@
 use Rattle.std.proofs.Common.{◌≡◌, ℕ, List, cond, take}
 use Rattle.std.specs.List.{list_any}
-use Rattle.surname_index.specs.Numbers.{under, with_last}
+use Rattle.sheet_lines.specs.Numbers.{under, with_last}
 use Rattle.sheets.specs.Pages.{has_key}
 use Rattle.sheets.proofs.surnames.add_names.Given as goal
 

@@ -2,8 +2,8 @@ use Rattle.std.proofs.Common.{ap, ◌∙◌}
 use Rattle.std.proofs.lemmas.List.{take_all}
 use Rattle.std.specs.FinMap as map
 use Rattle.archive_state.specs.Content.{Content}
-use Rattle.surname_index.specs.Numbers.{under}
-use Rattle.surname_index.proofs.Kept.{kept, then_person}
+use Rattle.sheet_lines.specs.Numbers.{under}
+use Rattle.sheet_lines.proofs.Kept.{kept, then_person}
 use Rattle.sheets.specs.Called.{is_called}
 use Rattle.sheets.proofs.Called.{are_called}
 use Rattle.sheets.proofs.surnames.surnames_of.Goals as goal

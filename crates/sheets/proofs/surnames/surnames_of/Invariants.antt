@@ -1,7 +1,7 @@
 use Rattle.std.proofs.Common.{◌≡◌, ℕ, List, take}
 use Rattle.std.specs.FinMap as map
-use Rattle.surname_index.specs.Numbers.{under}
-use Rattle.surname_index.proofs.Kept.{kept}
+use Rattle.sheet_lines.specs.Numbers.{under}
+use Rattle.sheet_lines.proofs.Kept.{kept}
 use Rattle.sheets.specs.Called.{is_called}
 use Rattle.sheets.proofs.surnames.surnames_of.Given as goal
 

@@ -1,6 +1,6 @@
 use Rattle.std.proofs.Common.{◌≡◌, ◌++◌, ◌≤◌, take, string_bytes}
 use Rattle.std.specs.List.{flat_map}
-use Rattle.archive_view.specs.Looks.{OnView}
+use Rattle.archive_state.specs.Looks.{OnView}
 use Rattle.showing.specs.Shown as shown
 use Rattle.showing.proofs.showing.push_all.Given as goal
 

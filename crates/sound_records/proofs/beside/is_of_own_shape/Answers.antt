@@ -1,5 +1,5 @@
 use Rattle.record_rules.specs.Judged.{has_own_shape}
-use Rattle.known_records.specs.Knowing.{known_by}
+use Rattle.sound_records.specs.Knowing.{known_by}
 use Rattle.sound_records.proofs.Judged.{if_ok_decides, shape}
 use Rattle.sound_records.proofs.beside.is_of_own_shape.Goals as goal
 

@@ -1,5 +1,5 @@
 use Rattle.record_rules.specs.Judged.{has_untaken}
-use Rattle.known_records.specs.Knowing.{known_by, known_by_before}
+use Rattle.sound_records.specs.Knowing.{known_by, known_by_before}
 use Rattle.sound_records.proofs.Judged.{if_ok_decides, untaken}
 use Rattle.sound_records.proofs.beside.is_untaken.Goals as goal
 

@@ -1,6 +1,6 @@
 use Rattle.std.proofs.Common.{subst}
 use Rattle.std.specs.Prelude.{MatchOption}
-use Rattle.known_records.specs.Knowing.{AreWithin, IsTooLong, KnowsPaths}
+use Rattle.sound_records.specs.Knowing.{AreWithin, IsTooLong, KnowsPaths}
 use Rattle.sound_records.specs.Keys.{AreApart, HasTaken}
 use Rattle.sound_records.specs.Parts.{AllKeep, IsBreach}
 use Rattle.sound_records.proofs.Whole.{whole}

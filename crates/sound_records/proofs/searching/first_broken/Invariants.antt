@@ -1,5 +1,5 @@
 use Rattle.std.proofs.Common.{take}
-use Rattle.known_records.specs.Knowing.{KnowsPaths}
+use Rattle.sound_records.specs.Knowing.{KnowsPaths}
 use Rattle.sound_records.specs.Parts.{AllKeep}
 use Rattle.sound_records.proofs.searching.first_broken.Given as goal
 

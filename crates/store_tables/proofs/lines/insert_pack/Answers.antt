@@ -3,7 +3,7 @@ use Rattle.std.specs.Str.{IsUtf8}
 use Rattle.sqlite.specs.Held.{state}
 use Rattle.sqlite.specs.State.{ExecutesInside}
 use Rattle.sqlite.specs.declared.types.Value.TheVariants.{Int, Text}
-use Rattle.packed_lines.specs.Packed.{packed}
+use Rattle.packed_rows.specs.Packed.{packed}
 use Rattle.store_tables.specs.Reading.{HaveTop, IsU32}
 use Rattle.store_tables.specs.Rows.{first_tag, first_target, number_or_null, with_pack}
 use Rattle.store_tables.proofs.Calls.{followed, number_bound}

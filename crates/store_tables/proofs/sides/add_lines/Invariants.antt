@@ -1,4 +1,4 @@
--- The lines that were gone over are behind those of before.
+-- The lines that were gone over are after those of before.
 use Rattle.std.proofs.Common.{◌≡◌, ◌++◌}
 use Rattle.store_tables.specs.Reading.{lines_in_pack}
 use Rattle.store_tables.proofs.sides.add_lines.Given as goal

@@ -5,7 +5,7 @@ use mir.Facts.{to_z-of_z}
 use Rattle.std.specs.Str.{IsUtf8}
 use Rattle.sqlite.specs.Held.{state}
 use Rattle.sqlite.specs.State.{ExecutesInside}
-use Rattle.packed_lines.specs.Packed.{packed}
+use Rattle.packed_rows.specs.Packed.{packed}
 use Rattle.store_tables.specs.Reading.{HaveTop, IsU32}
 use Rattle.store_tables.specs.Rows.{SlipSide, first_tag, first_target, integer_at, pair_place}
 use Rattle.store_tables.specs.Sides.{with_slip_side}

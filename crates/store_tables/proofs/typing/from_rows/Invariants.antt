@@ -4,7 +4,7 @@ use Rattle.std.specs.Vec.Iter.{into_iter_items, into_iter_len}
 use Rattle.store_tables.specs.Conversion.{EachWith}
 use Rattle.store_tables.proofs.typing.from_rows.Given as goal
 
--- what the rows that are left are read as goes behind the items
+-- what the rows that are left are read as goes after the items
 abbrev pub invariant-rows : goal.invariant-rows
 invariant-rows g l = record {
   read : (more : List _) → EachWith g.T.FromRow.reads_as (into_iter_items l.rows) more

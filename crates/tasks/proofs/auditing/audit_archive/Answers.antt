@@ -1,6 +1,6 @@
 use Rattle.std.proofs.Common.{false, refl, Ok, Err}
 use Rattle.store.specs.Histories.{is_storage}
-use Rattle.archive_exports.proofs.Calls.{reads_any}
+use Rattle.archive_output.proofs.Calls.{reads_any}
 use Rattle.tasks.proofs.auditing.audit_archive.Goals as goal
 
 pub returns-in-Ok-print_sound-clause-audits : goal.returns-in-Ok-print_sound-clause-audits

@@ -1,6 +1,6 @@
 use Rattle.std.proofs.Common.{◌≡◌, false}
 use Rattle.list_laws.proofs.Outcomes.{on_ok_more}
-use Rattle.file_imports.proofs.Told.{imported_seen}
+use Rattle.archive_input.proofs.Told.{imported_seen}
 use Rattle.store.proofs.Told.{import_seen}
 use Rattle.tasks.specs.Counts.{SaysAloud, SaysCount, SaysPart}
 use Rattle.tasks.proofs.Aloud.{import_keeps}

@@ -1,5 +1,5 @@
 use Rattle.std.proofs.Common.{◌≡◌, inl, inr, rules, subst, sym}
-use Rattle.file_imports.specs.Importing.{TellsImported}
+use Rattle.archive_input.specs.Importing.{TellsImported}
 use Rattle.tasks.specs.Counts.{SaysCount}
 use Rattle.tasks.proofs.importing.take_in_aloud.Goals as goal
 

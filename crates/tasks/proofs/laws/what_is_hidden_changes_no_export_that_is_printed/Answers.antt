@@ -1,10 +1,10 @@
 use Rattle.std.proofs.Common.{inl, inr, length, sym, subst, ◌≤◌}
 use Rattle.std.specs.Io.KnownBytes.{Appends}
-use Rattle.archive_exports.specs.Exporting.{export_text}
+use Rattle.archive_output.specs.Exporting.{export_text}
 use Rattle.archive_state.specs.Content.{Records}
-use Rattle.export_forest.specs.Forest.{exported}
+use Rattle.gedcom_export.specs.Forest.{exported}
 use Rattle.gedcom_tree.specs.Text.{text}
-use Rattle.shown_archives.specs.Writing.{IsCut}
+use Rattle.archive_output.specs.Writing.{IsCut}
 use Rattle.tasks.proofs.Publishing.{both_cut, whole_and_cut}
 use Rattle.tasks.proofs.laws.what_is_hidden_changes_no_export_that_is_printed.Goals as goal
 

@@ -1,7 +1,7 @@
 use Rattle.std.proofs.Common.{◌≡◌, inl, inr, sym, subst}
 use Rattle.archive_state.specs.Content.{Records}
-use Rattle.shown_archives.specs.Sheets.{sheet_text}
-use Rattle.shown_archives.specs.Writing.{GotNoText, GotText}
+use Rattle.archive_output.specs.Sheets.{sheet_text}
+use Rattle.archive_output.specs.Writing.{GotNoText, GotText}
 use Rattle.tasks.proofs.Hiding.{both_got, none_got, one_got}
 use Rattle.tasks.proofs.laws.what_is_hidden_changes_no_sheet_that_is_printed.Goals as goal
 

@@ -1,5 +1,5 @@
 use Rattle.std.proofs.Common.{refl}
-use Rattle.archive_audits.specs.Judging.{without_fault}
+use Rattle.table_looks.specs.Judging.{without_fault}
 use Rattle.store.specs.Histories.{has_broken}
 use Rattle.store.specs.Standing.{standing}
 use Rattle.store.proofs.Called.{read_call, still_call}

@@ -1,6 +1,0 @@
-mod Counting
-mod Found
-mod Judged
-mod Linked
-mod Shown
-mod Spanned

@@ -1,7 +1,0 @@
-use Rattle.std.proofs.Common.{take}
-use Rattle.std.specs.BTreeSet as set
-use Rattle.archive_audits.specs.Linking.{AreLinesLinked, pair_order}
-use Rattle.archive_audits.proofs.linking.first_target.Given as goal
-
-abbrev pub invariant-lines : goal.invariant-lines
-invariant-lines l = AreLinesLinked (set.contains pair_order l.links) l.number (take l.line-index l.lines)

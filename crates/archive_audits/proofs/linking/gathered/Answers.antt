@@ -1,7 +1,0 @@
-use Rattle.archive_audits.proofs.Linked.{added}
-use Rattle.archive_audits.proofs.linking.gathered.Goals as goal
-
-pub rows-preserved : goal.rows-preserved
-rows-preserved c target n =
-    rw (← c.row.view_is) (added target n c.rows.yielded c.row.inside.target c.row.inside.number _ _
-    (c.in_ok-insert.ensures.updates.0 (target, n)) (c.rows.invariant target n))

@@ -1,8 +1,0 @@
-use Rattle.std.proofs.Common.{ℕ, ◌≡◌}
-use Rattle.std.specs.BTreeSet as set
-use Rattle.store_rows.specs.Links.{has_link}
-use Rattle.archive_audits.specs.Linking.{pair_order}
-use Rattle.archive_audits.proofs.linking.gathered.Given as goal
-
-abbrev pub invariant-rows : goal.invariant-rows
-invariant-rows l = (target n : ℕ) → set.contains pair_order l.links (target, n) ≡ has_link target n l.yielded

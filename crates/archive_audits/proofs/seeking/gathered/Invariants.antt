@@ -1,8 +1,0 @@
-use Rattle.std.proofs.Common.{ℕ, ◌≡◌}
-use Rattle.std.specs.BTreeMap as tree
-use Rattle.std.specs.Ordering.{nat_cmp}
-use Rattle.archive_audits.specs.Seeking.{soughts_in}
-use Rattle.archive_audits.proofs.seeking.gathered.Given as goal
-
-abbrev pub invariant-rows : goal.invariant-rows
-invariant-rows l = (n : ℕ) → tree.get nat_cmp l.soughts n ≡ soughts_in l.yielded n

@@ -1,8 +1,0 @@
-use Rattle.std.proofs.Common.{ℕ, ◌≡◌}
-use Rattle.std.specs.BTreeMap as tree
-use Rattle.std.specs.Ordering.{nat_cmp}
-use Rattle.archive_audits.specs.Spanning.{spans_in}
-use Rattle.archive_audits.proofs.spanning.gathered.Given as goal
-
-abbrev pub invariant-rows : goal.invariant-rows
-invariant-rows l = (n : ℕ) → tree.get nat_cmp l.spans n ≡ spans_in l.yielded n

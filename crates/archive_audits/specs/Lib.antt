@@ -1,4 +1,0 @@
-pub mod Linking
-pub mod Seeking
-pub mod Spanning
-pub mod Judging

@@ -1,5 +1,0 @@
-pub mod Exported
-pub mod Asked
-pub mod Calls
-pub mod Named
-pub mod Stopped

@@ -1,2 +1,0 @@
-pub mod Exporting
-pub mod Reading

@@ -1,0 +1,89 @@
+-- Rows that were served each in its turn, and what is told of them.
+use Rattle.std.proofs.Common.{
+  ◌≡◌,
+  ◌+◌,
+  ◌++◌,
+  ◌∷◌,
+  ℕ,
+  List,
+  [],
+  Option,
+  None,
+  Some,
+  refl,
+  ap,
+  subst,
+  arith,
+  length,
+  length-append,
+}
+use Rattle.std.proofs.KnownBytes.{Appends-nil}
+use Rattle.sqlite_trees.specs.declared.store.Store.{Ghosts}
+use Rattle.record_text.specs.declared.refusal.RefusalKind.{RefusalKind}
+use Rattle.request_csv.specs.Faults.{fault_text}
+use Rattle.archive_input.specs.Answers.{Served}
+use Rattle.archive_input.specs.RowByRow.{AreTold, IsTold, Moment, Serves, ServesAll, ServesUpTo}
+
+-- ---- what is told of a row
+-- nothing was told of a row that was not refused
+pub not_refused : (number : ℕ) (o : Option RefusalKind) (told : Option (List ℕ)) → None ≡ o → IsTold number o told told
+not_refused number o told e = subst (λ (x : Option RefusalKind). IsTold number x told told) e refl
+
+pub told_as : (number : ℕ) (kind : RefusalKind) (o : Option RefusalKind) (before after : Option (List ℕ))
+    → Some kind ≡ o → IsTold number (Some kind) before after → IsTold number o before after
+told_as number kind o before after e told = subst (λ (x : Option RefusalKind). IsTold number x before after) e told
+
+-- no memory was found to form its line
+pub wants : (number : ℕ) (kind : RefusalKind) (told : Option (List ℕ)) → IsTold number (Some kind) told told
+wants number kind told = (fault_text number kind [], ([], refl), (0, omega arith, Appends-nil told))
+
+-- ---- rows one after the other
+none_more : (served : List Served) → served ≡ served ++ []
+none_more [] = refl
+none_more (s ∷ served) = ap (λ (more : List Served). s ∷ more) (none_more served)
+
+module _ {S W F : Type 0} (g : Ghosts S) (written : W → Option (List ℕ)) (told : F → Option (List ℕ)) where
+  pub all_more : (n k : ℕ) (served : List Served) (s : Served) (a m b : Moment g W F) → k ≡ n + length served
+      → ServesAll g written told n served a m → Serves g written told k s m b
+      → ServesAll g written told n (served ++ s ∷ []) a b
+  all_more n k [] s a m b e all one = (
+    b,
+    subst (λ (x : Moment g W F). Serves g written told n s x b) all
+        (subst (λ (x : ℕ). Serves g written told x s m b) (omega (arith, e)) one),
+    refl,
+  )
+  all_more n k (x ∷ xs) s a m b e all one = (
+    all.0,
+    all.1,
+    all_more (n + 1) k xs s all.0 m b (omega (arith, e)) all.2 one,
+  )
+
+  -- this many rows were served so, from the first on
+  pub record InTurn (count : ℕ) (a b : Moment g W F) (served : List Served) : Type 0 where
+    pub counted : count ≡ length served
+    pub all : ServesAll g written told 1 served a b
+
+  pub turn_none : (a : Moment g W F) → InTurn 0 a a []
+  turn_none a = record { counted = refl; all = refl }
+
+  pub turn_more : (count : ℕ) (served : List Served) (s : Served) (a m b : Moment g W F) → InTurn count a m served
+      → Serves g written told (count + 1) s m b → InTurn (count + 1) a b (served ++ s ∷ [])
+  turn_more count served s a m b turn one = record {
+    counted = rw (length-append) (omega (arith, turn.counted));
+    all = all_more 1 (count + 1) served s a m b (omega (arith, turn.counted)) turn.all one;
+  }
+
+  -- the call ended before the next row, or in it; of that one nothing was told
+  pub up_to : (count : ℕ) (served : List Served) (a m : Moment g W F) (faults : F) → InTurn count a m served
+      → faults ≡ m.faults → ServesUpTo g written told served a faults
+  up_to count served a m faults turn same = (served, [], none_more served, omega arith, m, turn.all, ap told same)
+
+  pub up_to_last : (count : ℕ) (served : List Served) (s : Served) (a m : Moment g W F) (faults : F)
+      → InTurn count a m served → faults ≡ m.faults → ServesUpTo g written told (served ++ s ∷ []) a faults
+  up_to_last count served s a m faults turn same = (served, s ∷ [], refl, omega arith, m, turn.all, ap told same)
+
+  -- what is told of rows that were served so
+  pub all_told : (n : ℕ) (served : List Served) (a b : Moment g W F) → ServesAll g written told n served a b
+      → AreTold n served (told a.faults) (told b.faults)
+  all_told n [] a b all = ap (λ (m : Moment g W F). told m.faults) all
+  all_told n (s ∷ served) a b all = (told all.0.faults, all.1.faulted, all_told (n + 1) served all.0 b all.2)

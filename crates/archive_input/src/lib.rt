@@ -1,0 +1,33 @@
+//! What an open archive takes in: rows of requests, batches of entries, and files of lines.
+//!
+//! - `answers`, `applying`, `bad_request`, `entering`, `laws`, `request`, `serving`, `telling`: rows of requests, read
+//!   and answered as CSV.
+//! - `faults`, `import_telling`, `importing`, `laws`: A file of lines, imported into an archive.
+//!
+//! Callers may rely on:
+//! - a row asks for one request, or is refused for one reason; each row is answered by one row, which is written and
+//!   flushed before the next row is decided; what is wrong with a row is told beside it.
+//! - the file is read whole, and is imported by one request or not at all; the report is that of the file alone, also
+//!   where the request was done before.
+#![tactic(auto)]
+
+mod answers;
+mod applying;
+mod bad_request;
+mod entering;
+mod faults;
+mod import_telling;
+mod importing;
+pub mod laws;
+mod request;
+mod serving;
+mod telling;
+
+pub use applying::apply;
+pub use bad_request::BadRequest;
+pub use entering::enter;
+pub use faults::refusal_of;
+pub use import_telling::import_text;
+pub use importing::import;
+pub use request::read_request;
+pub use serving::serve_row;

@@ -1,0 +1,214 @@
+//! One row served: its request is performed, and its answer written.
+
+ghost use Rattle.std.specs.Prelude.{◌≡◌, ◌⊎◌, false, Ok, Err, IfErr, IfOk, MatchBool, OnErr, OnOk, Some};
+ghost use Rattle.std.specs.Io.KnownBytes.{Appends};
+ghost use Rattle.commands.specs.Rows.{is_want};
+ghost use Rattle.csv.specs.Records.{fields_of};
+ghost use Rattle.devices.specs.Devices.{Rose};
+ghost use Rattle.record_text.specs.declared.refusal.RefusalKind.TheVariants as refusal;
+ghost use Rattle.store.specs.Histories.{Outcome, has_failed};
+ghost use Rattle.archive_input.specs.Answers.{Served, answer_text};
+ghost use Rattle.archive_input.specs.Applying.{IsServed, Steps, WritesPart, is_in_doubt};
+ghost use Rattle.archive_input.specs.RowByRow.{Serves, refusal_in, refusal_of};
+
+use crate::answers::{bad_text, outcome_text};
+use crate::bad_request::BadRequest;
+use crate::request::read_request;
+use crate::telling::tell_fault;
+use archive_core::Request;
+use csv::ByteRecord;
+use devices::{Device, TransferError, write_flushed};
+use receipts::Answer;
+use record_text::{Refusal, RefusalKind};
+use sqlite::Alter;
+use std::alloc::Global;
+use std::io::Write;
+use store::Archive;
+
+/// Serves the row of this number: performs its request, writes its answer and flushes it, and tells on the faults why
+/// it is refused, where it is. `apply` calls it for one row after the other, so the answer of a row is with the writer
+/// before the next is decided. `before` is the writer's count of failures at the start of the call that asks.
+///
+/// 80: the database failed, and nothing is written. 95: the writer failed. 1: no memory was found to read the row, or
+/// to form or write its answer. At these nothing is told on the faults. What they do with what they are given decides
+/// nothing.
+pub fn serve_row<S: Alter, W: Write + Device, F: Write + Device>(
+    alloc: Global,
+    archive: &mut Archive<S>,
+    row: &ByteRecord,
+    number: u64,
+    output: &mut W,
+    faults: &mut F,
+    before: u64,
+) -> Result<(), RefusalKind>
+    ensures served { OnOk result ((s : Served) × IsServed (fields_of row.now) s
+        × Serves S.Store W.contents F.contents number s
+        (record { archive = archive.old; output = output.old; faults = faults.old })
+        (record { archive = archive.new; output = output.new; faults = faults.new })) }
+    ensures ended { IfErr result
+        (λ kind. ((kind ≡ refusal.OutOfMemory) × (archive.new ≡ archive.old)
+        × (W.contents output.new ≡ W.contents output.old))
+        ⊎ ((s : Served) × IsServed (fields_of row.now) s × Steps S.Store s archive.old archive.new
+        × MatchBool (is_in_doubt s) ((kind ≡ refusal.Storage) × (W.contents output.new ≡ W.contents output.old))
+        (WritesPart kind (W.contents output.old) (W.contents output.new) (answer_text s)))) }
+    ensures failed { result ≡ Err refusal.WriteFailed → Rose before (W.failed output.new) }
+    ensures untold { OnErr result (faults.new ≡ faults.old) }
+{
+    match answer_row(alloc, archive, row, output, before) {
+        Ok(None) => Ok(()),
+        Ok(Some(kind)) => {
+            tell_fault(alloc, number, kind, row, faults);
+            Ok(())
+        }
+        Err(kind) => Err(kind),
+    }
+}
+
+/// The same without the faults: why the row is refused, where it is.
+fn answer_row<S: Alter, W: Write + Device>(
+    alloc: Global,
+    archive: &mut Archive<S>,
+    row: &ByteRecord,
+    output: &mut W,
+    before: u64,
+) -> Result<Option<RefusalKind>, RefusalKind>
+    ensures served { IfOk result (λ refused. (s : Served) × IsServed (fields_of row.now) s
+        × Steps S.Store s archive.old archive.new
+        × (is_in_doubt s ≡ false) × Appends (W.contents output.old) (W.contents output.new) (answer_text s)
+        × (refused ≡ refusal_of s)) }
+    ensures ended { IfErr result
+        (λ kind. ((kind ≡ refusal.OutOfMemory) × (archive.new ≡ archive.old)
+        × (W.contents output.new ≡ W.contents output.old))
+        ⊎ ((s : Served) × IsServed (fields_of row.now) s × Steps S.Store s archive.old archive.new
+        × MatchBool (is_in_doubt s) ((kind ≡ refusal.Storage) × (W.contents output.new ≡ W.contents output.old))
+        (WritesPart kind (W.contents output.old) (W.contents output.new) (answer_text s)))) }
+    ensures failed { result ≡ Err refusal.WriteFailed → Rose before (W.failed output.new) }
+{
+    match read_request(alloc, row) {
+        Ok(request) => serve_request(alloc, archive, request, output, before),
+        Err(bad) => answer_bad(alloc, bad, output, before),
+    }
+}
+
+/// Performs a request, and writes its answer: why it is refused, where it is.
+fn serve_request<S: Alter, W: Write + Device>(
+    alloc: Global,
+    archive: &mut Archive<S>,
+    request: Request,
+    output: &mut W,
+    before: u64,
+) -> Result<Option<RefusalKind>, RefusalKind>
+    ensures served { IfOk result (λ refused. (o : Outcome) × Steps S.Store (Ok (request, o)) archive.old archive.new
+        × (has_failed o ≡ false) × Appends (W.contents output.old) (W.contents output.new)
+        (answer_text (Ok (request, o))) × (refused ≡ refusal_in o)) }
+    ensures ended { IfErr result (λ kind. (o : Outcome) × Steps S.Store (Ok (request, o)) archive.old archive.new
+        × MatchBool (has_failed o) ((kind ≡ refusal.Storage) × (W.contents output.new ≡ W.contents output.old))
+        (WritesPart kind (W.contents output.old) (W.contents output.new) (answer_text (Ok (request, o))))) }
+    ensures failed { result ≡ Err refusal.WriteFailed → Rose before (W.failed output.new) }
+{
+    let outcome = archive.perform(alloc, &request);
+    let answered = answer_outcome(alloc, &request, outcome, output, before);
+    drop(request);
+    answered
+}
+
+/// Writes the answer to a request with its outcome: why it is refused, where it is. 80: the outcome is 80, and nothing
+/// is written.
+fn answer_outcome<W: Write + Device>(
+    alloc: Global,
+    request: &Request,
+    outcome: Result<Answer, Refusal>,
+    output: &mut W,
+    before: u64,
+) -> Result<Option<RefusalKind>, RefusalKind>
+    ensures served { IfOk result (λ refused. (has_failed outcome ≡ false) × Appends (W.contents output.old)
+        (W.contents output.new) (answer_text (Ok («request».now, outcome))) × (refused ≡ refusal_in outcome)) }
+    ensures ended { IfErr result
+        (λ kind. MatchBool (has_failed outcome)
+        ((kind ≡ refusal.Storage) × (W.contents output.new ≡ W.contents output.old))
+        (WritesPart kind (W.contents output.old) (W.contents output.new) (answer_text (Ok («request».now, outcome))))) }
+    ensures failed { result ≡ Err refusal.WriteFailed → Rose before (W.failed output.new) }
+{
+    if has_failed(outcome) {
+        return Err(RefusalKind::Storage);
+    }
+    match outcome_text(alloc, request, outcome) {
+        Ok(text) => match write_answer(output, before, text.as_slice()) {
+            Ok(()) => Ok(refusal_in(outcome)),
+            Err(kind) => Err(kind),
+        },
+        Err(_) => Err(RefusalKind::OutOfMemory),
+    }
+}
+
+/// Why a request is refused, where it is.
+fn refusal_in(outcome: Result<Answer, Refusal>) -> Option<RefusalKind>
+    ensures { result ≡ refusal_in outcome }
+{
+    match outcome {
+        Ok(_) => None,
+        Err(refusal) => Some(refusal.kind),
+    }
+}
+
+/// Whether the database failed at a request.
+fn has_failed(outcome: Result<Answer, Refusal>) -> bool
+    ensures { result ≡ has_failed outcome }
+{
+    match outcome {
+        Ok(_) => false,
+        Err(refusal) => matches!(refusal.kind, RefusalKind::Storage),
+    }
+}
+
+/// Writes the answer to a row that is no request, and hands its refusal on. 1, with nothing written: no memory was
+/// found to read the row.
+fn answer_bad<W: Write + Device>(
+    alloc: Global,
+    bad: BadRequest,
+    output: &mut W,
+    before: u64,
+) -> Result<Option<RefusalKind>, RefusalKind>
+    ensures served { IfOk result (λ refused. (is_want bad.kind ≡ false) × Appends (W.contents output.old)
+        (W.contents output.new) (answer_text (Err bad)) × (refused ≡ Some bad.kind)) }
+    ensures ended { IfErr result
+        (λ kind. MatchBool (is_want bad.kind)
+        ((kind ≡ refusal.OutOfMemory) × (W.contents output.new ≡ W.contents output.old))
+        (WritesPart kind (W.contents output.old) (W.contents output.new) (answer_text (Err bad)))) }
+    ensures failed { result ≡ Err refusal.WriteFailed → Rose before (W.failed output.new) }
+{
+    if is_want(bad.kind) {
+        return Err(RefusalKind::OutOfMemory);
+    }
+    match bad_text(alloc, &bad) {
+        Ok(text) => match write_answer(output, before, text.as_slice()) {
+            Ok(()) => Ok(Some(bad.kind)),
+            Err(kind) => Err(kind),
+        },
+        Err(_) => Err(RefusalKind::OutOfMemory),
+    }
+}
+
+/// Whether memory was refused.
+fn is_want(kind: RefusalKind) -> bool
+    ensures { result ≡ is_want kind }
+{
+    matches!(kind, RefusalKind::OutOfMemory)
+}
+
+/// Writes and flushes an answer. At an error the writer has taken a beginning of it.
+fn write_answer<W: Write + Device>(
+    output: &mut W,
+    before: u64,
+    text: &[u8],
+) -> Result<(), RefusalKind>
+    ensures written { OnOk result (Appends (W.contents output.old) (W.contents output.new) text.now) }
+    ensures part { IfErr result (λ kind. WritesPart kind (W.contents output.old) (W.contents output.new) text.now) }
+    ensures failed { result ≡ Err refusal.WriteFailed → Rose before (W.failed output.new) }
+{
+    match write_flushed(output, before, text) {
+        Ok(()) => Ok(()),
+        Err(TransferError::Failed) => Err(RefusalKind::WriteFailed),
+        Err(TransferError::OutOfMemory) => Err(RefusalKind::OutOfMemory),
+    }
+}

@@ -1,6 +1,0 @@
-pub mod Found
-pub mod Likes
-pub mod Mentions
-pub mod PlaceNames
-mod Said
-pub mod SaidPaths

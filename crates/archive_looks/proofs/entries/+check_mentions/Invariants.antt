@@ -1,5 +1,0 @@
-use Rattle.std.proofs.Common.{length}
-use Rattle.archive_looks.proofs.entries.+check_mentions.Given as goal
-
-abbrev pub decreases-check_mentions : goal.decreases-check_mentions
-decreases-check_mentions l = length l.mentions.now

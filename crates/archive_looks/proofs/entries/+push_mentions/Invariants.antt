@@ -1,5 +1,0 @@
-use Rattle.std.proofs.Common.{length}
-use Rattle.archive_looks.proofs.entries.+push_mentions.Given as goal
-
-abbrev pub decreases-push_mentions : goal.decreases-push_mentions
-decreases-push_mentions l = length l.given.now

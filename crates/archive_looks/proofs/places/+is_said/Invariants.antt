@@ -1,4 +1,0 @@
-use Rattle.archive_looks.proofs.places.+is_said.Given as goal
-
-abbrev pub decreases-is_said : goal.decreases-is_said
-decreases-is_said g l = l.number

@@ -1,5 +1,0 @@
-pub mod Applied
-pub mod Checks
-pub mod Entries
-pub mod Exact
-pub mod Numbers

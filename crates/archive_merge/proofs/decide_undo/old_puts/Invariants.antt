@@ -1,7 +1,0 @@
-use Rattle.std.proofs.Common.{◌≡◌, take}
-use Rattle.std.specs.List.{flat_map}
-use Rattle.archive_merge.specs.Merges.{put_old}
-use Rattle.archive_merge.proofs.decide_undo.old_puts.Given as goal
-
-abbrev pub invariant-changes : goal.invariant-changes
-invariant-changes l = l.puts.items ≡ flat_map put_old (take l.change-index l.changes)

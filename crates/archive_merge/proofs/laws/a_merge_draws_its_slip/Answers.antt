@@ -1,5 +1,0 @@
-use Rattle.archive_merge.proofs.Drawing.{merge_draws}
-use Rattle.archive_merge.proofs.laws.a_merge_draws_its_slip.Goals as goal
-
-pub returns : goal.returns
-returns _ c after keep gone a e = merge_draws c after keep gone a e

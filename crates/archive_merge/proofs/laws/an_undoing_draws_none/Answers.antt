@@ -1,5 +1,0 @@
-use Rattle.archive_merge.proofs.Drawing.{undo_draws}
-use Rattle.archive_merge.proofs.laws.an_undoing_draws_none.Goals as goal
-
-pub returns : goal.returns
-returns _ c after k a e = undo_draws c after k a e

@@ -1,5 +1,0 @@
-use Rattle.archive_merge.proofs.Applying.{undo_applied}
-use Rattle.archive_merge.proofs.laws.changes_of_an_undoing.Goals as goal
-
-pub returns : goal.returns
-returns _ c n s a at = undo_applied c n s a at

@@ -1,5 +1,0 @@
-pub mod Comparing
-pub mod Looks
-pub mod Merges
-pub mod Rest
-pub mod Steps

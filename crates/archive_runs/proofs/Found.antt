@@ -1,0 +1,489 @@
+-- What is kept of a task that ended on the archive in a file, and what is found in what a crash may leave.
+use Rattle.std.proofs.Common.{◌≡◌, ◌⊎◌, ◌∷◌, [], ℕ, ℤ, Bool, List, Some, None, Ok, Err, inl, inr, refl, sym, ap, subst}
+use Rattle.std.specs.Prelude.{Option}
+use Rattle.std.specs.Io.KnownBytes.{Appends, Keeps as StaysKnown}
+use Rattle.std.specs.declared.io.Read as read
+use Rattle.std.specs.declared.io.Write as write
+use Rattle.sqlite.specs.Files.{HoldsDatabase, file_state, over_files}
+use Rattle.sqlite.specs.Held.{Held}
+use Rattle.sqlite.specs.State.{HasCleanDisk, State}
+use Rattle.sqlite.specs.Tree.{Trees}
+use Rattle.sqlite_disk.specs.declared.Disk as disk
+use Rattle.sqlite_store.specs.declared.store.FileStore.{FileStore}
+use Rattle.sqlite_wal.specs.Recovery.{Image}
+use Rattle.archive_files.specs.Opening.{IsTakenUp}
+use Rattle.archive_runs.specs.Tasks.{PerformsOn}
+use Rattle.archive_core.specs.Machine.{Done, Runs, import_of}
+use Rattle.archive_core.specs.declared.request.Request.{Request}
+use Rattle.archive_output.specs.Exporting.{export_text}
+use Rattle.archive_output.specs.Reading.{OnOpen}
+use Rattle.archive_lists.specs.Texts.{list_text, shown_text}
+use Rattle.archive_state.specs.Content.{Content}
+use Rattle.request_csv.specs.Batches.{ReadsBatch}
+use Rattle.request_csv.specs.Input.{AreFirstRows, AreRows, row_bytes}
+use Rattle.commands.specs.declared.entry_row.EntryRow.{EntryRow}
+use Rattle.devices.specs.Devices.{AppendsBeginning}
+use Rattle.devices.specs.declared.device.Device as device
+use Rattle.round_trip.specs.SameLaws.{FileComesBack}
+use Rattle.archive_input.specs.Importing.{Imports, IsFileOf}
+use Rattle.archive_input.specs.Telling.{import_text}
+use Rattle.gedcom_export.specs.Ends.{IsWhole}
+use Rattle.gedcom_tree.specs.Forest.{Item}
+use Rattle.import_definitions.specs.Report.{report}
+use Rattle.receipts.specs.declared.answer.Answer.{Answer}
+use Rattle.receipts.specs.declared.report.ReportLine.{ReportLine}
+use Rattle.record_text.specs.Text.{IsText}
+use Rattle.record_text.specs.declared.refusal.Refusal.{Refusal}
+use Rattle.record_text.specs.declared.refusal.RefusalKind.{RefusalKind}
+use Rattle.archive_output.specs.declared.sheet.Sheet.{Sheet}
+use Rattle.store.specs.Archives.{IsArchive}
+use Rattle.store.specs.Earlier.{HoldsArchive}
+use Rattle.store.specs.Histories.{Outcome as Answered, in_doubt}
+use Rattle.store.specs.Lives.{Counts, IsRefusedOver}
+use Rattle.store.specs.declared.archive.Archive.{Archive}
+use Rattle.store.proofs.Histories.{counted}
+use Rattle.store.proofs.Viewed.{seen_of}
+use Rattle.archive_input.specs.Answers.{Served}
+use Rattle.archive_input.specs.Applying.{
+  Applied,
+  Ended as EndedEarly,
+  Ends as EndsEarly,
+  PerformsAll,
+  Steps,
+  answers,
+  calls_of,
+}
+use Rattle.archive_input.specs.Entering.{Enters, batch_request}
+use Rattle.tasks.specs.Ends.{
+  Applies,
+  Audits,
+  Does,
+  EntersBatch,
+  Exports,
+  ImportsFile,
+  IsAudit,
+  ListsDays,
+  PrintsSheet,
+  PrintsText,
+  Publishes,
+}
+use Rattle.tasks.specs.Moments.{Moment, Streams, at}
+use Rattle.tasks.specs.Parts.{Shelves}
+use Rattle.tasks.specs.Status.{Finishes, Outcome, Plain, as_text}
+use Rattle.tasks.specs.Texts.{made_text}
+use Rattle.tasks.specs.declared.task.Task.{Task}
+use Rattle.tasks.specs.declared.task.Task.TheVariants as task
+use Rattle.archive_runs.specs.Reading.{ReadsBack}
+use Rattle.archive_runs.specs.Runs.{Acts, KeepsNone, KeepsOne, Run, Tells}
+use Rattle.archive_runs.specs.Seeing.{IsSeen, IsSeenAs}
+use Rattle.archive_runs.proofs.Counted.{IsKept, Ran, accepted, refused}
+use Rattle.archive_runs.proofs.Seen.{HasDone, kept_still, never, run_of, told, told_none, told_part}
+
+-- ---- archives in what a crash may leave
+pub still_held : (t : Trees) (s : State) → IsRefusedOver t s → (society : List ℕ) (c : Content)
+    → HoldsArchive society c t → (left : Trees) → s.may_leave left → HoldsArchive society c left
+still_held t s over society c (inl is) left may =
+    let found = over.kept society c is left may in
+    inl (subst (λ (k : Content). IsArchive society k left) found.1 found.2)
+still_held t s over society c (inr was) left may = over.held society c was left may
+
+-- the law of `archive_runs`
+abbrev pub ArePerformed : {D : Type 0} → disk.Ghosts D → Type 0
+ArePerformed {D} g = (image : Image) (taken new : Archive (FileStore D g) over_files) (calls : List Done)
+    → IsTakenUp image taken → PerformsAll over_files taken calls new → PerformsOn image calls (file_state new.conn)
+
+-- ---- of a task whose run was seen so
+module _ {R W F : Type 0} (reader : read.Ghosts R) (reads : device.Ghosts R) (writer : write.Ghosts W)
+    (writes : device.Ghosts W) (faulter : write.Ghosts F) (fails : device.Ghosts F) (x y : Streams R W F)
+    (input seen unseen : List ℕ) (status : ℕ) (ended : Option ℕ) (s : IsSeen reader writer x y input seen unseen)
+    (is : IsSeenAs status unseen ended) where
+  abbrev pub run : Task → Run
+  run t = run_of t input seen ended
+
+  abbrev Got : Option (List ℕ)
+  Got = writer.contents x.output
+
+  abbrev Has : Option (List ℕ)
+  Has = writer.contents y.output
+
+  -- what was seen of what was written, by the lemmas of Seen
+  tells : (t : Task) (text : List ℕ) → Appends Got Has text → Tells (run t) text
+  tells = told reader writer x y input seen unseen status ended s is
+
+  tells_part : (t : Task) (text : List ℕ) → AppendsBeginning Got Has text → ¬ (HasDone ended) → Tells (run t) text
+  tells_part = told_part reader writer x y input seen unseen status ended s is
+
+  tells_none : (t : Task) (text : List ℕ) → seen ≡ [] → ¬ (HasDone ended) → Tells (run t) text
+  tells_none = told_none reader writer x y input seen unseen status ended s is
+
+  nothing_told : StaysKnown Got Has → seen ≡ []
+  nothing_told = kept_still reader writer x y input seen unseen status ended s is
+
+  -- a refusal
+  undone : status ≡ 1 → ¬ (HasDone ended)
+  undone = never reader writer x y input seen unseen status ended s is
+
+  -- what is kept, and what is found in tables that a crash may leave
+  abbrev pub FoundIn : Task → List ℕ → Content → Trees → Type 0
+  FoundIn t society c left = (kept : List Done) × (found : Content) × Acts c (Some t) (run t) kept × Runs c kept found
+      × HoldsArchive society found left
+
+  -- nothing was done
+  pub acts_none : (t : Task) (c : Content) → seen ≡ [] → ¬ (HasDone ended) → Acts c (Some t) (run t) []
+  acts_none task.Apply c none never = inl (refl, none, never)
+  acts_none (task.Entries token source) c none never = inl (refl, none, never)
+  acts_none (task.Import token progress) c none never = inl (refl, none, never)
+  acts_none task.Export c none never = (refl, λ done. absurd (never done))
+  acts_none (task.ExportPublic today) c none never = refl
+  acts_none (task.Sheet sheet today) c none never = refl
+  acts_none (task.Library today) c none never = refl
+  acts_none task.Audit c none never = refl
+  acts_none (task.Days first last words) c none never = refl
+  acts_none (task.List wanted after limit) c none never = refl
+  acts_none (task.Show numbers) c none never = refl
+
+  pub keeps_none : (t : Task) (society : List ℕ) (c : Content) (left : Trees) → Acts c (Some t) (run t) []
+      → HoldsArchive society c left → FoundIn t society c left
+  keeps_none t society c left acts held = ([], c, acts, refl, held)
+
+  -- ---- on an archive that was taken up
+  module _ {D : Type 0} {g : disk.Ghosts D} (image : Image) (taken new : Archive (FileStore D g) over_files)
+      (held : IsTakenUp image taken) (clean : HasCleanDisk (file_state new.conn)) (society : List ℕ) (c : Content)
+      (tables : Trees) (holds : HoldsDatabase image tables) (had : HoldsArchive society c tables) (left : Trees)
+      (may : (file_state new.conn).may_leave left) where
+    -- requests that were performed
+    performed : ArePerformed g → (calls : List Done) → PerformsAll over_files taken calls new
+        → (kept : List Done) × (found : Content) × Counts calls kept × Runs c kept found × IsArchive society found left
+    performed law calls all =
+        let one = (law image taken new calls held all clean society c tables holds had).1 left may in
+        let counts = counted calls c one.0 (in_doubt calls) refl one.1 in
+        (counts.0, one.0, counts.1, counts.2, one.2)
+
+    -- one request that was accepted
+    one_accepted : ArePerformed g → (r : Request) (answer : Answer)
+        → PerformsAll over_files taken ((r, Ok answer) ∷ []) new
+        → (kept : List Done) × (found : Content) × (kept ≡ (r, Ok answer) ∷ []) × Runs c kept found
+        × IsArchive society found left
+    one_accepted law r answer all =
+        let k = performed law ((r, Ok answer) ∷ []) all in (k.0, k.1, accepted r answer k.0 k.2, k.3, k.4)
+
+    -- one that was refused, or is in doubt
+    one_refused : ArePerformed g → (r : Request) (e : Refusal) → PerformsAll over_files taken ((r, Err e) ∷ []) new
+        → (found : Content) × Ran r c found × IsArchive society found left
+    one_refused law r e all =
+        let k = performed law ((r, Err e) ∷ []) all in (k.1, refused r e c k.1 k.0 k.2 k.3, k.4)
+
+    -- the archive is as it was taken up
+    same_archive : new ≡ taken → IsArchive society c left
+    same_archive same =
+        let again = subst (λ (a : Archive (FileStore D g) over_files). IsTakenUp image a) (sym same) held in
+        let found = (again.has clean society c tables holds had).2 left may in
+        subst (λ (k : Content). IsArchive society k left) found.1 found.2
+
+    -- it was only read
+    only_read : (P : List ℕ → Content → Type 0) → OnOpen (file_state taken.conn) (file_state new.conn) P
+        → P society c × IsArchive society c left
+    only_read P opened =
+        let did = opened clean in
+        let had_it = (held.has did.0 society c tables holds had).0 in
+        let all = did.1 society c had_it in
+        let found = all.1 left may in
+        (all.0, subst (λ (k : Content). IsArchive society k left) found.1 found.2)
+
+    -- ---- rows of requests
+    told_early : (kind : RefusalKind) (served : List Served) → EndsEarly kind served Got Has → ¬ (HasDone ended)
+        → Tells (run task.Apply) (answers served)
+    told_early kind served (inl storage) never = tells task.Apply (answers served) storage.2
+    told_early kind served (inr (none, inl reading)) never = tells task.Apply (answers served) reading.1
+    told_early kind served (inr (none, inr part)) never = tells_part task.Apply (answers served) part.1 never
+
+    rows_served : ArePerformed g → (rows : Option (List ℕ)) → rows ≡ row_bytes (Some input)
+        → Applied over_files rows Got Has taken new → FoundIn task.Apply society c left
+    rows_served law rows same all =
+        let k = performed law (calls_of all.served) all.performed in (
+          k.0,
+          k.1,
+          inr (record {
+            rows = all.rows;
+            served = all.served;
+            read = inl (subst (λ bytes. AreRows bytes all.rows) same all.all, all.certain);
+            each = all.each;
+            counts = k.2;
+            told = tells task.Apply (answers all.served) all.written;
+          }),
+          k.3,
+          inl k.4,
+        )
+
+    rows_ended : ArePerformed g → (kind : RefusalKind) (rows : Option (List ℕ)) → rows ≡ row_bytes (Some input)
+        → EndedEarly over_files kind rows Got Has taken new → ¬ (HasDone ended) → FoundIn task.Apply society c left
+    rows_ended law kind rows same part never =
+        let k = performed law (calls_of part.served) part.performed in (
+          k.0,
+          k.1,
+          inr (record {
+            rows = part.rows;
+            served = part.served;
+            read = inr (subst (λ bytes. AreFirstRows bytes part.rows) same part.first, never);
+            each = part.each;
+            counts = k.2;
+            told = told_early kind part.served part.written never;
+          }),
+          k.3,
+          inl k.4,
+        )
+
+    -- ---- one request, with the text of its answer
+    -- what a run with this task keeps, where it keeps one request or none
+    module _ (law : ArePerformed g) (t : Task) (r : Request) (text : Answer → List ℕ)
+        (acts : (kept : List Done) → KeepsNone (run t) kept ⊎ KeepsOne (run t) r text kept
+        → Acts c (Some t) (run t) kept)
+      where
+        one_told : (answer : Answer) → PerformsAll over_files taken ((r, Ok answer) ∷ []) new
+            → Tells (run t) (text answer) → FoundIn t society c left
+        one_told answer all tells_it =
+            let k = one_accepted law r answer all in
+            (k.0, k.1, acts k.0 (inr (answer, k.2, tells_it)), k.3, inl k.4)
+
+        kept_or_not : (kept : List Done) → seen ≡ [] → ¬ (HasDone ended) → (kept ≡ []) ⊎ IsKept r kept
+            → KeepsNone (run t) kept ⊎ KeepsOne (run t) r text kept
+        kept_or_not kept none never (inl nothing) = inl (nothing, none, never)
+        kept_or_not kept none never (inr one) = inr (one.0, one.1, tells_none t (text one.0) none never)
+
+        one_untold : (e : Refusal) → PerformsAll over_files taken ((r, Err e) ∷ []) new → seen ≡ []
+            → ¬ (HasDone ended) → FoundIn t society c left
+        one_untold e all none never =
+            let k = one_refused law r e all in
+            (k.1.0, k.0, acts k.1.0 (kept_or_not k.1.0 none never k.1.1), k.1.2, inl k.2)
+
+    -- ---- a batch of entries
+    module _ (law : ArePerformed g) (token : List ℕ) (source : ℕ) where
+      abbrev Entering : Task
+      Entering = task.Entries token source
+
+      acts_batch : (rows : List EntryRow) → ReadsBatch (row_bytes (Some input)) rows → (kept : List Done)
+          → KeepsNone (run Entering) kept
+          ⊎ KeepsOne (run Entering) (batch_request token source rows) made_text kept
+          → Acts c (Some Entering) (run Entering) kept
+      acts_batch rows reads_them kept (inl none) = inl none
+      acts_batch rows reads_them kept (inr one) = inr (rows, reads_them, one)
+
+      batch_read : (o : Answered) → Enters over_files token source (row_bytes (reader.remaining x.input)) taken o new
+          → (rows : List EntryRow) × ReadsBatch (row_bytes (Some input)) rows
+          × PerformsAll over_files taken ((batch_request token source rows, o) ∷ []) new
+      batch_read o enters =
+          let steps : Steps over_files (Ok (batch_request token source enters.0, o)) taken new = enters.2 in
+          (enters.0, subst (λ bytes. ReadsBatch (row_bytes bytes) enters.0) s.reads enters.1, steps.0)
+
+      batch_told : (answer : Answer)
+          → Enters over_files token source (row_bytes (reader.remaining x.input)) taken (Ok answer) new
+          → Tells (run Entering) (made_text answer) → FoundIn Entering society c left
+      batch_told answer enters tells_it =
+          let b = batch_read (Ok answer) enters in
+          one_told law Entering (batch_request token source b.0) made_text (acts_batch b.0 b.1) answer b.2 tells_it
+
+      batch_untold : (e : Refusal)
+          → Enters over_files token source (row_bytes (reader.remaining x.input)) taken (Err e) new
+          → seen ≡ [] → ¬ (HasDone ended) → FoundIn Entering society c left
+      batch_untold e enters none never =
+          let b = batch_read (Err e) enters in
+          one_untold law Entering (batch_request token source b.0) made_text (acts_batch b.0 b.1) e b.2 none never
+
+    -- ---- a file
+    module _ (law : ArePerformed g) (token : List ℕ) (progress : Bool) where
+      abbrev Taking : Task
+      Taking = task.Import token progress
+
+      abbrev told_of : List Item → Answer → List ℕ
+      told_of forest answer = import_text answer (report forest)
+
+      acts_file : (forest : List Item) → IsFileOf (Some input) forest → (kept : List Done)
+          → KeepsNone (run Taking) kept ⊎ KeepsOne (run Taking) (import_of token forest) (told_of forest) kept
+          → Acts c (Some Taking) (run Taking) kept
+      acts_file forest reads_it kept (inl none) = inl none
+      acts_file forest reads_it kept (inr one) = inr (forest, reads_it, one)
+
+      file_read : (o : Answered) → (all : Imports over_files token (reader.remaining x.input) taken o new)
+          → IsFileOf (Some input) all.forest
+          × PerformsAll over_files taken ((import_of token all.forest, o) ∷ []) new
+      file_read o all =
+          let steps : Steps over_files (Ok (import_of token all.forest, o)) taken new = all.done in
+          (subst (λ bytes. IsFileOf bytes all.forest) s.reads all.read, steps.0)
+
+      file_told : (answer : Answer) → (all : Imports over_files token (reader.remaining x.input) taken (Ok answer) new)
+          → Tells (run Taking) (import_text answer (report all.forest)) → FoundIn Taking society c left
+      file_told answer all tells_it =
+          let f = file_read (Ok answer) all in
+          one_told law Taking (import_of token all.forest) (told_of all.forest) (acts_file all.forest f.0) answer f.1
+          tells_it
+
+      file_untold : (e : Refusal) → (all : Imports over_files token (reader.remaining x.input) taken (Err e) new)
+          → seen ≡ [] → ¬ (HasDone ended) → FoundIn Taking society c left
+      file_untold e all none never =
+          let f = file_read (Err e) all in
+          one_untold law Taking (import_of token all.forest) (told_of all.forest) (acts_file all.forest f.0) e f.1
+          none never
+
+    -- ---- an export
+    export_back : FileComesBack → IsWhole Got Has (export_text society c) → IsArchive society c left
+        → HasDone ended → ReadsBack c seen
+    export_back back whole archive done =
+        let all = (tells task.Export (export_text society c) whole.written).1 done in
+        let text_of : IsText society = subst IsText archive.2.society_is archive.1.typed.society in
+        subst (λ bytes. ReadsBack c bytes) (sym all) (back c society archive.2.sound text_of whole.short)
+
+    -- ---- what is kept, by how the task ended
+    module _ (between : F) where
+      abbrev Before : Moment (over_files {D = D} {g = g}) R W F
+      Before = at taken x
+
+      abbrev After : Moment (over_files {D = D} {g = g}) R W F
+      After = record { archive = new; input = y.input; output = y.output; faults = between }
+
+      apply_found : ArePerformed g → (r : Plain) → Applies over_files reader reads writer writes faulter fails Before
+          After r
+          → Finishes faulter.contents (as_text r) status between y.faults → FoundIn task.Apply society c left
+      apply_found law (Ok done) did finishes =
+          rows_served law (row_bytes (reader.remaining x.input)) (ap row_bytes s.reads) did.applied.0
+      apply_found law (Err kind) did finishes =
+          rows_ended law kind (row_bytes (reader.remaining x.input)) (ap row_bytes s.reads) did.ended.0
+          (undone finishes.0)
+
+      enter_found : ArePerformed g → (token : List ℕ) (source : ℕ) (o : Outcome)
+          → EntersBatch over_files reader reads writer writes faulter fails Before After token source o
+          → Finishes faulter.contents o status between y.faults → FoundIn (task.Entries token source) society c left
+      enter_found law token source (Ok done) did finishes =
+          let all = did.entered in
+          batch_told law token source all.0 all.1 (tells (task.Entries token source) (made_text all.0) all.2)
+      enter_found law token source (Err t) did finishes = elim did.refused [
+        | inl none ↦ elim none.0 [
+          | inl batch ↦ batch_untold law token source t.refusal batch (nothing_told none.1) (undone finishes.0)
+          | inr no_batch ↦ keeps_none (task.Entries token source) society c left
+              (acts_none (task.Entries token source) c (nothing_told none.1) (undone finishes.0))
+              (inl (same_archive no_batch.0))
+        ]
+        | inr part ↦ batch_told law token source part.0 part.3
+            (tells_part (task.Entries token source) (made_text part.0) part.4.written (undone finishes.0))
+      ]
+
+      import_found : ArePerformed g → (token : List ℕ) (progress : Bool) (o : Outcome)
+          → ImportsFile over_files reader reads writer writes faulter fails Before After token o
+          → Finishes faulter.contents o status between y.faults → FoundIn (task.Import token progress) society c left
+      import_found law token progress (Ok done) did finishes =
+          let all = did.imported in
+          let same : all.1 ≡ report all.2.0.forest = all.2.1 in
+          file_told law token progress all.0 all.2.0
+          (subst (λ (said : List ReportLine). Tells (run (task.Import token progress)) (import_text all.0 said)) same
+          (tells (task.Import token progress) (import_text all.0 all.1) all.3))
+      import_found law token progress (Err t) did finishes = elim did.refused [
+        | inl none ↦ elim none.0 [
+          | inl all ↦ file_untold law token progress t.refusal all (nothing_told none.1) (undone finishes.0)
+          | inr others ↦ elim others [
+            | inl silent ↦ file_told law token progress silent.0 silent.1
+                (tells_none (task.Import token progress) (import_text silent.0 (report silent.1.forest))
+                (nothing_told none.1) (undone finishes.0))
+            | inr no_file ↦ keeps_none (task.Import token progress) society c left
+                (acts_none (task.Import token progress) c (nothing_told none.1) (undone finishes.0))
+                (inl (same_archive no_file.0))
+          ]
+        ]
+        | inr part ↦
+            let same : part.1 ≡ report part.4.0.forest = part.4.1 in
+            file_told law token progress part.0 part.4.0
+            (subst (λ (said : List ReportLine). Tells (run (task.Import token progress)) (import_text part.0 said)) same
+            (tells_part (task.Import token progress) (import_text part.0 part.1) part.5.written (undone finishes.0)))
+      ]
+
+      export_found : FileComesBack → (r : Plain)
+          → Exports over_files reader reads writer writes faulter fails Before After r
+          → Finishes faulter.contents (as_text r) status between y.faults → FoundIn task.Export society c left
+      export_found back (Ok done) did finishes =
+          let was = only_read (λ name k. IsWhole Got Has (export_text name k)) did.written in
+          keeps_none task.Export society c left (refl, export_back back was.0 was.1) (inl was.1)
+      export_found back (Err kind) did finishes =
+          let was = only_read _ did.begun in
+          keeps_none task.Export society c left (refl, λ done. absurd (undone finishes.0 done)) (inl was.1)
+
+      -- ---- tasks that only show: the archive is left as it is
+      published : (today : ℤ) (r : Plain) → Publishes over_files reader reads writer writes faulter fails Before After
+          today r
+          → IsArchive society c left
+      published today (Ok done) did = (only_read _ did.written).1
+      published today (Err kind) did = (only_read _ did.begun).1
+
+      sheet_printed : (sheet : Sheet) (today : ℤ) (r : Plain)
+          → PrintsSheet over_files reader reads writer writes faulter fails Before After sheet today r
+          → IsArchive society c left
+      sheet_printed sheet today (Ok done) did = (only_read _ did.written).1
+      sheet_printed sheet today (Err kind) did = (only_read _ did.refused).1
+
+      shelved : (today : ℤ) (o : Outcome) (shown : Option Content)
+          → Shelves (file_state taken.conn) (file_state new.conn) today o shown → IsArchive society c left
+      shelved today (Ok done) (Some shown) did = (only_read _ did.0).1
+      shelved today (Err t) None did = (only_read _ did).1
+      shelved today (Ok done) None did = absurd did
+      shelved today (Err t) (Some shown) did = absurd did
+
+      audited : (o : Outcome) → Audits over_files reader reads writer writes faulter fails Before After o
+          → IsArchive society c left
+      audited o did =
+          let audit : IsAudit (file_state taken.conn) did.0 (file_state new.conn) = did.2 clean in
+          let stays = audit.reads.stays in
+          let had_it = (held.has stays.clean society c tables holds had).0 in
+          (had_it.0, stays.crash had_it.0 had_it.1 left may, had_it.2)
+
+      same_connection : new.conn ≡ taken.conn → IsArchive society c left
+      same_connection same =
+          let was_clean = subst (λ (h : Held (FileStore D g)). HasCleanDisk (file_state h)) same clean in
+          let was_left = subst (λ (h : Held (FileStore D g)). (file_state h).may_leave left) same may in
+          let found = (held.has was_clean society c tables holds had).2 left was_left in
+          subst (λ (k : Content). IsArchive society k left) found.1 found.2
+
+      days_listed : (first last : ℤ) (words : Bool) (r : Plain)
+          → ListsDays over_files reader reads writer writes faulter fails Before After words first last r
+          → IsArchive society c left
+      days_listed first last words (Ok done) did = (only_read _ did.written.1).1
+      days_listed first last words (Err kind) did = elim did.cut [
+        | inl reversed ↦ same_connection reversed.1
+        | inr cut ↦ (only_read _ cut.1).1
+      ]
+
+      text_printed : (text : Content → Option (List ℕ)) (r : Plain)
+          → PrintsText over_files reader reads writer writes faulter fails Before After text r
+          → IsArchive society c left
+      text_printed text r did =
+          let read = did.ended clean in
+          let had_it = (held.has read.0 society c tables holds had).0 in
+          (had_it.0, (read.1 had_it.0 c had_it.1 (seen_of had_it.2)).1 left may, had_it.2)
+
+      -- ---- each task
+      pub found_by : ArePerformed g → FileComesBack → (t : Task) (o : Outcome) (shown : Option Content)
+          → Does over_files reader reads writer writes faulter fails Before After t o shown
+          → Finishes faulter.contents o status between y.faults → FoundIn t society c left
+      found_by law back task.Apply o shown did finishes =
+          apply_found law did.0.0 did.0.2
+          (subst (λ (same : Outcome). Finishes faulter.contents same status between y.faults) did.0.1 finishes)
+      found_by law back (task.Entries token source) o shown did finishes =
+          enter_found law token source o did.0 finishes
+      found_by law back (task.Import token progress) o shown did finishes =
+          import_found law token progress o did.0 finishes
+      found_by law back task.Export o shown did finishes =
+          export_found back did.0.0 did.0.2
+          (subst (λ (same : Outcome). Finishes faulter.contents same status between y.faults) did.0.1 finishes)
+      found_by law back (task.ExportPublic today) o shown did finishes =
+          keeps_none (task.ExportPublic today) society c left refl (inl (published today did.0.0 did.0.2))
+      found_by law back (task.Sheet sheet today) o shown did finishes =
+          keeps_none (task.Sheet sheet today) society c left refl (inl (sheet_printed sheet today did.0.0 did.0.2))
+      found_by law back (task.Library today) o shown did finishes =
+          keeps_none (task.Library today) society c left refl (inl (shelved today o shown did.0))
+      found_by law back task.Audit o shown did finishes =
+          keeps_none task.Audit society c left refl (inl (audited o did.0))
+      found_by law back (task.Days first last words) o shown did finishes =
+          keeps_none (task.Days first last words) society c left refl
+          (inl (days_listed first last words did.0.0 did.0.2))
+      found_by law back (task.List wanted after limit) o shown did finishes =
+          keeps_none (task.List wanted after limit) society c left refl
+          (inl (text_printed (λ k. Some (list_text wanted after limit k)) did.0.0 did.0.2))
+      found_by law back (task.Show numbers) o shown did finishes =
+          keeps_none (task.Show numbers) society c left refl
+          (inl (text_printed (λ k. shown_text k numbers.items) did.0.0 did.0.2))

@@ -1,0 +1,7 @@
+mod Following
+mod Carried
+mod Closed
+mod Counted
+mod Found
+mod Idle
+mod Seen

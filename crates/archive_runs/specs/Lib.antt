@@ -1,0 +1,6 @@
+pub mod Tasks
+pub mod Reading
+pub mod Runs
+pub mod Beginning
+pub mod Leaving
+pub mod Seeing

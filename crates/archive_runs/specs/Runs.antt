@@ -1,0 +1,113 @@
+-- Runs of the program, one after the other, on a file and the log beside it that nobody else writes. Rules of our own.
+use Rattle.std.specs.Prelude.{◌≡◌, ◌⊎◌, ◌++◌, ◌∷◌, [], ℕ, List, Option, Some, None, Ok}
+use Rattle.sqlite.specs.Files.{HoldsDatabase}
+use Rattle.sqlite.specs.Tree.{Trees}
+use Rattle.sqlite_wal.specs.Recovery.{Image}
+use Rattle.archive_core.specs.Machine.{Done, Runs, import_of}
+use Rattle.archive_core.specs.declared.request.Request.{Request}
+use Rattle.archive_state.specs.Content.{Content}
+use Rattle.request_csv.specs.Batches.{ReadsBatch}
+use Rattle.request_csv.specs.Input.{AreFirstRows, AreRows, Row, row_bytes}
+use Rattle.commands.specs.declared.entry_row.EntryRow.{EntryRow}
+use Rattle.archive_input.specs.Importing.{IsFileOf}
+use Rattle.archive_input.specs.Telling.{import_text}
+use Rattle.gedcom_tree.specs.Forest.{Item}
+use Rattle.import_definitions.specs.Report.{report}
+use Rattle.receipts.specs.declared.answer.Answer.{Answer}
+use Rattle.store.specs.Earlier.{HoldsArchive}
+use Rattle.store.specs.Histories.{in_doubt}
+use Rattle.store.specs.Lives.{Counts}
+use Rattle.archive_input.specs.Answers.{Served}
+use Rattle.archive_input.specs.Applying.{AreServed, answers, calls_of}
+use Rattle.archive_input.specs.Entering.{batch_request}
+use Rattle.tasks.specs.Texts.{made_text}
+use Rattle.tasks.specs.declared.task.Task.{Task}
+use Rattle.tasks.specs.declared.task.Task.TheVariants as task
+use Rattle.archive_runs.specs.Reading.{ReadsBack}
+
+-- a run: its task on the archive in the file, none where it had none, as where its words were refused; its input, what
+-- it wrote on its output, and its status, none where it was stopped before it ended
+pub record Run : Type 0 where
+  pub task : Option Task
+  pub input : List ℕ
+  pub written : List ℕ
+  pub status : Option ℕ
+
+-- it ended, and said that what was asked for is done
+abbrev pub IsDone : Run → Type 0
+IsDone run = run.status ≡ Some 0
+
+-- it wrote a beginning of this text, and all of it where it is done
+abbrev pub Tells : Run → List ℕ → Type 0
+Tells run text = ((rest : List ℕ) × (text ≡ run.written ++ rest)) × (IsDone run → run.written ≡ text)
+
+-- ---- what is kept of the requests of a run, and told on its output
+-- these rows are all of the input, and no request is in doubt; or the first of it, and it is not done
+abbrev pub HasRead : Run → List Row → List Served → Type 0
+HasRead run rows served = (AreRows (row_bytes (Some run.input)) rows × (in_doubt (calls_of served) ≡ None))
+    ⊎ (AreFirstRows (row_bytes (Some run.input)) rows × ¬ (IsDone run))
+
+-- rows were served. Their requests are kept; that of the last may be in doubt, and then it is kept or not, and has no
+-- answer. The answers are told: each that stands on the output is of a request that is kept
+pub record KeepsRows (run : Run) (kept : List Done) : Type 0 where
+  pub rows : List Row
+  pub served : List Served
+  pub read : HasRead run rows served
+  pub each : AreServed rows served
+  pub counts : Counts (calls_of served) kept
+  pub told : Tells run (answers served)
+
+-- the one request is kept, and nothing is told but this of its answer
+abbrev pub KeepsOne : Run → Request → (Answer → List ℕ) → List Done → Type 0
+KeepsOne run r text kept = (answer : Answer) × (kept ≡ (r, Ok answer) ∷ []) × Tells run (text answer)
+
+-- nothing is kept, nothing is told, and it is not done
+abbrev pub KeepsNone : Run → List Done → Type 0
+KeepsNone run kept = (kept ≡ []) × (run.written ≡ []) × ¬ (IsDone run)
+
+-- the entries of the input are kept, all of them
+abbrev pub KeepsBatch : List ℕ → ℕ → Run → List Done → Type 0
+KeepsBatch token source run kept = (rows : List EntryRow) × ReadsBatch (row_bytes (Some run.input)) rows
+    × KeepsOne run (batch_request token source rows) made_text kept
+
+-- the file of the input is kept, whole
+abbrev pub KeepsFile : List ℕ → Run → List Done → Type 0
+KeepsFile token run kept = (forest : List Item) × IsFileOf (Some run.input) forest
+    × KeepsOne run (import_of token forest) (λ answer. import_text answer (report forest)) kept
+
+-- by its task, of an archive that held this. A batch and a file are kept whole or not at all; an export that is done
+-- reads back as the same records; of no other task anything is kept
+abbrev pub Acts : Content → Option Task → Run → List Done → Type 0
+Acts c (Some task.Apply) run kept = KeepsNone run kept ⊎ KeepsRows run kept
+Acts c (Some (task.Entries token source)) run kept = KeepsNone run kept ⊎ KeepsBatch token source run kept
+Acts c (Some (task.Import token progress)) run kept = KeepsNone run kept ⊎ KeepsFile token run kept
+Acts c (Some task.Export) run kept = (kept ≡ []) × (IsDone run → ReadsBack c run.written)
+Acts c _ run kept = kept ≡ []
+
+abbrev pub Keeps : Content → Run → List Done → Type 0
+Keeps c run kept = Acts c run.task run kept
+
+-- ---- runs on a file
+-- the file and its log hold the archive of a society, of either version
+abbrev pub Stands : List ℕ → Content → Image → Type 0
+Stands society c image = (t : Trees) × HoldsDatabase image t × HoldsArchive society c t
+
+-- what was kept of a run, and what the archive holds then
+abbrev pub Left : List ℕ → Content → Run → List Done → Content → Image → Type 0
+Left society c run kept found after = Keeps c run kept × Runs c kept found × ∥ Stands society found after ∥₁
+
+-- a run over these two, which leaves those two: of each archive that they held it loses nothing
+abbrev pub Carries : Image → Run → Image → Type 0
+Carries before run after = (society : List ℕ) (c : Content) → Stands society c before
+    → ∥ ((kept : List Done) × (found : Content) × Left society c run kept found after) ∥₁
+
+-- runs, each over what the one before has left
+abbrev pub Follow : Image → List Run → Image → Type 0
+Follow first [] last = last ≡ first
+Follow first (run ∷ more) last = (between : Image) × Carries first run between × Follow between more last
+
+-- what is kept of all of them is what is kept of each, in their order
+abbrev pub KeepAll : Content → List Run → List Done → Content → Type 0
+KeepAll c [] kept found = (kept ≡ []) × (found ≡ c)
+KeepAll c (run ∷ more) kept found = (one rest : List Done) × (between : Content) × Keeps c run one × Runs c one between
+    × KeepAll between more rest found × (kept ≡ one ++ rest)

@@ -1,0 +1,48 @@
+//! A task, performed on the archive in a file.
+
+ghost use Rattle.std.specs.Prelude.{◌≡◌, Err};
+ghost use Rattle.sqlite_wal.specs.Files.{image_at};
+ghost use Rattle.archive_runs.specs.Tasks.{EndsOnFile};
+
+use archive_files::{Left, LeftFile, Openable, open};
+use devices::Device;
+use sheets::Library;
+use std::io::{Read, Write};
+use std::rt::HostRuntime;
+use tasks::{Task, perform_task, placeless, status_of};
+
+/// Opens the archive in a file, performs a task on it, and gives the exit status; of `Task::Library` also what may be
+/// shown; and what is left of the file.
+///
+/// 82: there is no file, or it has no archive. 83: a later program made it. 80: the file cannot be opened or is no
+/// database, or the database failed. 1: memory was refused. At these nothing is read, and nothing written but the line
+/// of the refusal. Else it ends as `tasks::perform_task`.
+pub fn perform_on_file<S: Openable, R: Read + Device, W: Write + Device, F: Write + Device>(
+    rt: &HostRuntime,
+    file: &str,
+    start: S,
+    task: Task,
+    input: &mut R,
+    output: &mut W,
+    faults: &mut F,
+) -> (u8, Option<Library>, LeftFile<S>)
+    ensures { EndsOnFile R.Read R.Device W.Write W.Device F.Write F.Device (image_at S.Start) task
+        (record { input = input.old; output = output.old; faults = faults.old })
+        (record { input = input.new; output = output.new; faults = faults.new }) result.0 result.1 result.2 }
+{
+    match open(rt, file, start) {
+        Ok(mut archive) => {
+            let (status, shown) = perform_task(
+                rt.alloc(),
+                rt,
+                &mut archive,
+                task,
+                input,
+                output,
+                faults,
+            );
+            (status, shown, Left::Open(archive.into_connection()))
+        }
+        Err((kind, left)) => (status_of(Err(placeless(kind)), faults), None, left),
+    }
+}

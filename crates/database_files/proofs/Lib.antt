@@ -1,4 +1,0 @@
-mod Failed
-mod Found
-mod Fresh
-pub mod Leaving

@@ -1,4 +1,0 @@
-use Rattle.database_files.proofs.opening.UnknownOpenable.opened.Goals as goal
-
-pub returns-in-Err-clause-unopened : goal.returns-in-Err-clause-unopened
-returns-in-Err-clause-unopened c = c.left_of.ensures _ c.in-Err.ensures.unopened

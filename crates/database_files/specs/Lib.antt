@@ -1,3 +1,0 @@
-pub mod Closing
-pub mod Leaving
-pub mod Opening

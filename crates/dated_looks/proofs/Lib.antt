@@ -1,3 +1,0 @@
-mod Days
-mod Rising
-mod Seen

@@ -1,2 +1,0 @@
-pub mod Dated
-pub mod Picking

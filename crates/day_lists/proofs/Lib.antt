@@ -1,2 +1,0 @@
-mod Climbing
-mod Finds

@@ -1,8 +1,0 @@
-use Rattle.std.proofs.Common.{◌≡◌, ◌++◌, take, string_bytes}
-use Rattle.std.specs.List.{flat_map}
-use Rattle.day_lists.specs.Lines as lines
-use Rattle.day_lists.proofs.lines.push_lines.Given as goal
-
-abbrev pub invariant-numbers : goal.invariant-numbers
-invariant-numbers l = string_bytes l.out
-    ≡ string_bytes l.fn.out ++ flat_map (lines.told_line l.state.records) (take l.number-index l.found)

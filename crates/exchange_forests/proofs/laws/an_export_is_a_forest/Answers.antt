@@ -1,5 +1,0 @@
-use Rattle.exchange_forests.proofs.Forested.{export_is_forest}
-use Rattle.exchange_forests.proofs.laws.an_export_is_a_forest.Goals as goal
-
-pub returns : goal.returns
-returns c = export_is_forest

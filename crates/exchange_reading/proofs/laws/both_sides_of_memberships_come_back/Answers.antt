@@ -1,5 +1,0 @@
-use Rattle.exchange_reading.proofs.Sides.{sides_back}
-use Rattle.exchange_reading.proofs.laws.both_sides_of_memberships_come_back.Goals as goal
-
-pub returns : goal.returns
-returns c = sides_back c.a_sound_archive_is_readable.ensures c.the_families_of_a_person_are_found.ensures

@@ -1,4 +1,0 @@
-mod Growing
-pub mod Places
-pub mod Walked
-pub mod Whole

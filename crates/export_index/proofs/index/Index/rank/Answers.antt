@@ -1,9 +1,0 @@
-use Rattle.std.proofs.Common.{sym, ap, ◌∙◌}
-use Rattle.std.specs.FinMap as map
-use Rattle.export_index.specs.Index.{Index}
-use Rattle.archive_state.proofs.Maps.{get_lookup}
-use Rattle.export_index.proofs.index.Index.rank.Goals as goal
-
-pub returns : goal.returns
-returns c = c.get.ensures.value ∙ sym (get_lookup c.self.inside.ranks.entries c.args.number)
-    ∙ ap (λ (s : Index). map.get s.ranks c.args.number) c.self.view_is

@@ -1,6 +1,0 @@
-use Rattle.archive_state.proofs.Maps.{one_set}
-use Rattle.export_index.proofs.maps.put_name.Goals as goal
-
-pub returns : goal.returns
-returns c = one_set c.args.names.now.entries c.insert.new.self.entries c.args.number c.args.name
-    c.in_ok-insert.ensures.updates.0

@@ -1,6 +1,0 @@
-use Rattle.std.proofs.Common.{◌≡◌, ◌++◌, take}
-use Rattle.export_index.specs.Adding.{children_of}
-use Rattle.export_index.proofs.membership.push_children.Given as goal
-
-abbrev pub invariant-children : goal.invariant-children
-invariant-children l = l.sides.items ≡ l.fn.sides.items ++ children_of l.family (take l.child-index l.children)

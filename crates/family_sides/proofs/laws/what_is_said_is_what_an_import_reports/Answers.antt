@@ -1,5 +1,0 @@
-use Rattle.family_sides.proofs.AllSaid.{all_said}
-use Rattle.family_sides.proofs.laws.what_is_said_is_what_an_import_reports.Goals as goal
-
-pub returns : goal.returns
-returns c = all_said

@@ -1,5 +1,0 @@
-use Rattle.family_sides.proofs.nodes.below.Goals as goal
-use Rattle.file_roots.proofs.Below.{below_is}
-
-pub returns : goal.returns
-returns c = below_is c.args.node.now c.deref.result.now c.deref.ensures.value

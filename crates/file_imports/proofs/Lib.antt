@@ -1,2 +1,0 @@
-mod Imported
-pub mod Told

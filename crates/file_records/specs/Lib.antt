@@ -1,0 +1,10 @@
+pub mod KnownViews
+pub mod PathViews
+pub mod Arranged
+pub mod Lookups
+pub mod Members
+pub mod Taken
+pub mod Told
+pub mod SideViews
+pub mod Carried
+pub mod Drafts

@@ -1,8 +1,0 @@
-use Rattle.std.proofs.Common.{◌≡◌, ◌++◌, take, string_bytes}
-use Rattle.std.specs.List.{flat_map}
-use Rattle.finding.specs.Lines as lines
-use Rattle.finding.proofs.lines.push_partners.Given as goal
-
-abbrev pub invariant-each : goal.invariant-each
-invariant-each l = string_bytes l.out
-    ≡ string_bytes l.fn.out ++ flat_map lines.partner_words (take l.partner-index l.partners)

@@ -1,0 +1,12 @@
+pub mod Kinds
+pub mod Lines
+pub mod Nodes
+pub mod Reports
+pub mod Roots
+pub mod Steps
+pub mod Views
+pub mod Made
+pub mod Numbers
+pub mod Positions
+pub mod Report
+pub mod Sides

@@ -1,7 +1,0 @@
-mod Batches
-mod Counting
-mod Least
-mod Nodes
-mod Positions
-mod Seeking
-mod Ways

@@ -1,5 +1,0 @@
-use Rattle.import_drawing.proofs.Nodes.{batch_same}
-use Rattle.import_drawing.proofs.laws.the_batch_of_drafts_is_that_of_nodes.Goals as goal
-
-pub returns : goal.returns
-returns c = batch_same

@@ -1,5 +1,0 @@
-use Rattle.import_forest.proofs.Lowest.{lowest_is}
-use Rattle.import_forest.proofs.laws.the_lowest_place_is_one.Goals as goal
-
-pub returns : goal.returns
-returns c = lowest_is

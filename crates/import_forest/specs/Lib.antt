@@ -1,5 +1,0 @@
-pub mod Made
-pub mod Numbers
-pub mod Positions
-pub mod Report
-pub mod Sides

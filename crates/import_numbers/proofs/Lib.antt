@@ -1,0 +1,5 @@
+mod Cutting
+mod Kept
+mod Settled
+mod Below
+mod Finished

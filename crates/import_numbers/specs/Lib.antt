@@ -1,0 +1,4 @@
+pub mod Settling
+pub mod Views
+pub mod Parts
+pub mod Placed

@@ -1,3 +1,0 @@
-mod Cutting
-mod Kept
-mod Settled

@@ -1,5 +1,0 @@
-use Rattle.import_records.proofs.Finished.{is_finished}
-use Rattle.import_records.proofs.laws.a_finished_record_is_that_of_the_batch.Goals as goal
-
-pub returns : goal.returns
-returns c = is_finished

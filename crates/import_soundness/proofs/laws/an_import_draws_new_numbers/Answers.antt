@@ -1,5 +1,0 @@
-use Rattle.import_soundness.proofs.Drawn.{numbers_are_new}
-use Rattle.import_soundness.proofs.laws.an_import_draws_new_numbers.Goals as goal
-
-pub returns : goal.returns
-returns c = numbers_are_new

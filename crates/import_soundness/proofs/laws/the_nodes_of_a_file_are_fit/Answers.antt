@@ -1,5 +1,0 @@
-use Rattle.import_soundness.proofs.Filed.{files_have_nodes}
-use Rattle.import_soundness.proofs.laws.the_nodes_of_a_file_are_fit.Goals as goal
-
-pub returns : goal.returns
-returns c = files_have_nodes

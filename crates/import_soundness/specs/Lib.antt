@@ -1,2 +1,0 @@
-pub mod Imported
-pub mod Read

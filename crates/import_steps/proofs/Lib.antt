@@ -1,3 +1,0 @@
-pub mod Commands
-mod Decided
-mod Standing

@@ -1,5 +1,0 @@
-use Rattle.import_steps.proofs.Commands.{import_again}
-use Rattle.import_steps.proofs.laws.an_import_uses_no_number_again.Goals as goal
-
-pub returns : goal.returns
-returns _ c after f a e = import_again c after f a e

@@ -1,0 +1,9 @@
+pub mod Keys
+pub mod Seconds
+pub mod Imported
+pub mod Read
+pub mod Drafts
+pub mod Drawing
+pub mod Firsts
+pub mod Results
+pub mod Imports

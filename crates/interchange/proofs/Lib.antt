@@ -1,4 +1,0 @@
-mod Batches
-mod Counts
-mod Ordered
-mod Parts

@@ -1,9 +1,0 @@
-use Rattle.std.proofs.Common.{take}
-use Rattle.record_shapes.specs.Lists.{Ascends}
-use Rattle.known_records.specs.Knowing.{HasAll}
-use Rattle.known_records.proofs.Surveyed.{Upto}
-use Rattle.known_records.proofs.survey.paths_of.Given as goal
-
-abbrev pub invariant-numbers : goal.invariant-numbers
-invariant-numbers l = Ascends l.numbers → HasAll l.numbers l.state.records
-    → Upto l.state.records (take l.number-index l.numbers) l.paths

@@ -1,2 +1,0 @@
-pub mod KindTags
-pub mod Tags

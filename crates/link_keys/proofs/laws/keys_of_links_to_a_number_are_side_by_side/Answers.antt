@@ -1,5 +1,0 @@
-use Rattle.link_keys.proofs.Apart.{side_by_side}
-use Rattle.link_keys.proofs.laws.keys_of_links_to_a_number_are_side_by_side.Goals as goal
-
-pub returns : goal.returns
-returns c = side_by_side

@@ -1,5 +1,0 @@
-use Rattle.old_rows.proofs.OneOldContent.{one_content}
-use Rattle.old_rows.proofs.laws.old_rows_mean_one_content.Goals as goal
-
-pub returns : goal.returns
-returns c = one_content

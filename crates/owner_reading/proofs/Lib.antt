@@ -1,4 +1,0 @@
-pub mod EventLines
-pub mod Families
-pub mod Persons
-pub mod Spelt

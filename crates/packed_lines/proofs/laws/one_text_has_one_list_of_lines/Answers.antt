@@ -1,5 +1,0 @@
-use Rattle.packed_lines.proofs.OneText.{same_lines}
-use Rattle.packed_lines.proofs.laws.one_text_has_one_list_of_lines.Goals as goal
-
-pub returns : goal.returns
-returns c = same_lines

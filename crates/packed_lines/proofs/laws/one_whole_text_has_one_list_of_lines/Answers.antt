@@ -1,5 +1,0 @@
-use Rattle.packed_lines.proofs.OneText.{same_whole}
-use Rattle.packed_lines.proofs.laws.one_whole_text_has_one_list_of_lines.Goals as goal
-
-pub returns : goal.returns
-returns c = same_whole

@@ -1,5 +1,0 @@
-use Rattle.packed_lines.proofs.OneText.{read_again}
-use Rattle.packed_lines.proofs.laws.packed_lines_are_read_again.Goals as goal
-
-pub returns : goal.returns
-returns c = read_again

@@ -1,3 +1,0 @@
-mod PartByPart
-mod Trimmed
-pub mod Within

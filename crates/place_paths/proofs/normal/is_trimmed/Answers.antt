@@ -1,6 +1,0 @@
-use Rattle.place_paths.proofs.Trimmed.{none_in_front}
-use Rattle.place_paths.proofs.normal.is_trimmed.Goals as goal
-use Rattle.list_laws.proofs.Booleans.{never}
-
-pub returns-in-Some : goal.returns-in-Some
-returns-in-Some c = (λ t. absurd (never t), λ same. absurd (none_in_front c.args.part.now _ same c.in-Some.ensures))

@@ -1,4 +1,0 @@
-use Rattle.place_paths.proofs.paths.+is_within.Given as goal
-
-abbrev pub decreases-is_within : goal.decreases-is_within
-decreases-is_within g l = l.number

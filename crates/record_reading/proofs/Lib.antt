@@ -1,3 +1,0 @@
-pub mod Picked
-pub mod Placed
-pub mod Steps

@@ -1,5 +1,0 @@
-use Rattle.owner_reading.proofs.Spelt.{said_ok}
-use Rattle.records_anew.proofs.dates.said.Goals as goal
-
-pub returns : goal.returns
-returns c = said_ok c.try_new.result c.args.text.now c.as_str.ensures.same c.as_str.ensures.text c.try_new.ensures

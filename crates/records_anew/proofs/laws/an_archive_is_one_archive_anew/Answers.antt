@@ -1,5 +1,0 @@
-use Rattle.records_anew.proofs.OnceAnew.{one_anew}
-use Rattle.records_anew.proofs.laws.an_archive_is_one_archive_anew.Goals as goal
-
-pub returns : goal.returns
-returns c = one_anew

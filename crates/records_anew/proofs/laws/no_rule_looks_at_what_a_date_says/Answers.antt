@@ -1,5 +1,0 @@
-use Rattle.records_anew.proofs.SoundAnew.{redated_sound}
-use Rattle.records_anew.proofs.laws.no_rule_looks_at_what_a_date_says.Goals as goal
-
-pub returns : goal.returns
-returns c = redated_sound

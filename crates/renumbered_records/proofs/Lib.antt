@@ -1,4 +1,0 @@
-pub mod Links
-pub mod Texts
-pub mod Untaken
-pub mod Entries

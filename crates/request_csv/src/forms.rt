@@ -1,0 +1,323 @@
+//! Which field of a row is to blame.
+
+use crate::columns::{Column, MENTIONS, Use, column_at};
+use crate::finding::{Finding, Place};
+use commands::Verb;
+use csv::ByteRecord;
+use record_fields::{EntryKind, Item, Quality, Role, Sex};
+
+/// Where the fields after the verb begin.
+const FIELDS: usize = 2;
+
+/// The most bytes of a text.
+const MOST: usize = 1_048_576;
+
+/// The field at a place, from 0. `None`: there is none, or it is not UTF-8.
+fn text_at(row: &ByteRecord, at: usize) -> Option<&str> {
+    match row.get(at) {
+        Some(field) => match str::from_utf8(field) {
+            Ok(text) => Some(text),
+            Err(_) => None,
+        },
+        None => None,
+    }
+}
+
+/// The verb of a row. `None`: it has none.
+fn verb_of(row: &ByteRecord) -> Option<Verb> {
+    match text_at(row, 1) {
+        Some(word) => Verb::from_word(word),
+        None => None,
+    }
+}
+
+/// The name and the use of the field at a place, from 0.
+fn column_of(verb: Option<Verb>, at: usize) -> Option<Column> {
+    match verb {
+        Some(verb) if at >= FIELDS => column_at(verb, at - FIELDS),
+        _ => None,
+    }
+}
+
+/// The place of the field at a place from 0, with its name.
+fn place(verb: Option<Verb>, at: usize) -> Place {
+    let name = match at {
+        0 => "token",
+        1 => "verb",
+        _ => match column_of(verb, at) {
+            Some(column) => column.name,
+            None => "one too many",
+        },
+    };
+    Place {
+        number: at.saturating_add(1),
+        name,
+    }
+}
+
+/// 90: a field that is not UTF-8, or else one that is not of its type.
+pub(crate) fn bad_row(row: &ByteRecord) -> Finding {
+    let verb = verb_of(row);
+    for at in 0..row.len() {
+        if text_at(row, at).is_none() {
+            return Finding::Field {
+                at: place(verb, at),
+                what: "it is not UTF-8",
+            };
+        }
+    }
+    for at in 0..row.len() {
+        if let Some(what) = type_fault(row, verb, at) {
+            return Finding::Field {
+                at: place(verb, at),
+                what,
+            };
+        }
+    }
+    Finding::Row {
+        what: "a field is not of its type",
+    }
+}
+
+/// What is wrong with the type of a field. `None`: nothing.
+fn type_fault(row: &ByteRecord, verb: Option<Verb>, at: usize) -> Option<&'static str> {
+    match (column_of(verb, at), text_at(row, at)) {
+        (Some(column), Some(text)) => wanted(column.what, text),
+        _ => None,
+    }
+}
+
+/// What is wanted of a field that it is not. `None`: it is all that is wanted.
+fn wanted(what: Use, text: &str) -> Option<&'static str> {
+    match what {
+        Use::Record | Use::Number if !is_number(text) => Some("no number from 1 to 4294967295"),
+        Use::RecordOrNone if !text.is_empty() && !is_number(text) => Some(
+            "neither empty nor a number from 1 to 4294967295",
+        ),
+        Use::Sex if Sex::from_word(text).is_none() => Some("none of M, F and U"),
+        Use::SexOrNone if !text.is_empty() && Sex::from_word(text).is_none() => Some(
+            "neither empty nor M, F or U",
+        ),
+        Use::QualityOrNone if !text.is_empty() && Quality::from_word(text).is_none() => Some(
+            "neither empty nor 0, 1, 2 or 3",
+        ),
+        Use::Kind if EntryKind::from_word(text).is_none() => Some(
+            "none of BAPTISM, MARRIAGE and BURIAL",
+        ),
+        Use::Item if !is_item(text) => Some("no number from 1 to 999999"),
+        _ => None,
+    }
+}
+
+/// Whether a field is 1 to 10 digits of value 1 to 4,294,967,295.
+fn is_number(text: &str) -> bool {
+    number_of(text).is_some()
+}
+
+/// Whether a field is such a number of at most 999,999.
+fn is_item(text: &str) -> bool {
+    match number_of(text) {
+        Some(number) => Item::new(number).is_some(),
+        None => false,
+    }
+}
+
+fn number_of(text: &str) -> Option<u32> {
+    if text.len() > 10 || !text.as_bytes().iter().all(|b| b.is_ascii_digit()) {
+        return None;
+    }
+    match text.parse::<u32>() {
+        Ok(number) if number != 0 => Some(number),
+        _ => None,
+    }
+}
+
+/// 93: the token.
+pub(crate) fn bad_token(row: &ByteRecord) -> Finding {
+    let what = match text_at(row, 0) {
+        Some("") => "it is empty",
+        Some(token) if token.len() > 64 => "it has more than 64 characters",
+        _ => "it has another character than those from ! to ~",
+    };
+    Finding::Field {
+        at: place(None, 0),
+        what,
+    }
+}
+
+/// 91: the verb.
+pub(crate) fn unknown_verb() -> Finding {
+    Finding::Field {
+        at: place(None, 1),
+        what: "there is no such verb; verbs are small letters",
+    }
+}
+
+/// 92: how many fields there are.
+pub(crate) fn field_count(row: &ByteRecord) -> Finding {
+    match verb_of(row) {
+        Some(verb) => Finding::Count {
+            verb,
+            has: row.len().saturating_sub(FIELDS),
+        },
+        None => Finding::Row {
+            what: "there is no field behind the token",
+        },
+    }
+}
+
+/// 58: a field that is no text, or else what the verb forbids.
+pub(crate) fn bad_text(row: &ByteRecord) -> Finding {
+    let verb = verb_of(row);
+    for at in FIELDS..row.len() {
+        if let Some(what) = text_fault(row, verb, at) {
+            return Finding::Field {
+                at: place(verb, at),
+                what,
+            };
+        }
+    }
+    match verb {
+        Some(Verb::Place) => place_fault(row, verb),
+        Some(Verb::Source) => Finding::Field {
+            at: place(verb, FIELDS + 4),
+            what: "it comes without a repository",
+        },
+        Some(Verb::Link) => Finding::Field {
+            at: place(verb, FIELDS + 3),
+            what: "it is empty",
+        },
+        Some(Verb::Event) => no_part(verb, FIELDS + 4),
+        Some(Verb::Amend) => no_part(verb, FIELDS + 3),
+        Some(Verb::Entry) => no_part(verb, FIELDS + 5),
+        _ => Finding::Row {
+            what: "a field is no text",
+        },
+    }
+}
+
+fn no_part(verb: Option<Verb>, at: usize) -> Finding {
+    Finding::Field {
+        at: place(verb, at),
+        what: "no part of the path of this place has a name, or a text is over 1,048,576 bytes",
+    }
+}
+
+fn place_fault(row: &ByteRecord, verb: Option<Verb>) -> Finding {
+    let what = match text_at(row, FIELDS) {
+        Some("") => "it is empty",
+        _ => "it is not normal, or its path passes the limits",
+    };
+    Finding::Field {
+        at: place(verb, FIELDS),
+        what,
+    }
+}
+
+/// Why a field is no text. `None`: it is one, or is none that has to be one. A date may be longer than a text.
+fn text_fault(row: &ByteRecord, verb: Option<Verb>, at: usize) -> Option<&'static str> {
+    match (column_of(verb, at), text_at(row, at)) {
+        (Some(column), Some(text)) => match column.what {
+            Use::Text if text.len() > MOST => Some("it has more than 1048576 bytes"),
+            Use::Text | Use::Date => character_fault(text),
+            _ => None,
+        },
+        _ => None,
+    }
+}
+
+fn character_fault(text: &str) -> Option<&'static str> {
+    if text.as_bytes().iter().any(|b| *b == 0) {
+        return Some("it has the character U+0000");
+    }
+    if text.as_bytes().iter().any(|b| *b == 13) {
+        return Some("it has a carriage return (U+000D)");
+    }
+    None
+}
+
+/// 50 and 51: a number of a record. Where the row has two, either may be meant.
+pub(crate) fn bad_number(row: &ByteRecord, what: &'static str) -> Finding {
+    let verb = verb_of(row);
+    let mut seen: Option<usize> = None;
+    for at in FIELDS..row.len() {
+        if is_record_number(row, verb, at) {
+            match seen {
+                None => seen = Some(at),
+                Some(first) => {
+                    return Finding::Fields {
+                        first: place(verb, first),
+                        word: "or",
+                        second: place(verb, at),
+                        what,
+                    };
+                }
+            }
+        }
+    }
+    match seen {
+        Some(at) => Finding::Field {
+            at: place(verb, at),
+            what,
+        },
+        None => Finding::Row { what },
+    }
+}
+
+fn is_record_number(row: &ByteRecord, verb: Option<Verb>, at: usize) -> bool {
+    match (column_of(verb, at), text_at(row, at)) {
+        (Some(column), Some(text)) => match column.what {
+            Use::Record | Use::RecordOrNone => !text.is_empty(),
+            _ => false,
+        },
+        _ => false,
+    }
+}
+
+/// 62: the tag of an event, or a role of an entry.
+pub(crate) fn not_of_kind(row: &ByteRecord) -> Finding {
+    let verb = verb_of(row);
+    if verb != Some(Verb::Entry) {
+        return Finding::Field {
+            at: place(verb, FIELDS + 1),
+            what: "the owner has no events of this tag",
+        };
+    }
+    for at in (FIELDS + MENTIONS)..row.len() {
+        if at % 2 == (FIELDS + MENTIONS) % 2 && is_no_role(row, at) {
+            return Finding::Field {
+                at: place(verb, at),
+                what: "there is no such role",
+            };
+        }
+    }
+    Finding::Row {
+        what: "a role of a mention is none of the kind of the entry",
+    }
+}
+
+fn is_no_role(row: &ByteRecord, at: usize) -> bool {
+    match text_at(row, at) {
+        Some(word) => Role::from_word(word).is_none(),
+        None => false,
+    }
+}
+
+/// The field at a place, from 0, with what is wrong with it.
+pub(crate) fn field(row: &ByteRecord, at: usize, what: &'static str) -> Finding {
+    Finding::Field {
+        at: place(verb_of(row), at),
+        what,
+    }
+}
+
+/// Two fields that are wrong together.
+pub(crate) fn fields(row: &ByteRecord, first: usize, second: usize, what: &'static str) -> Finding {
+    let verb = verb_of(row);
+    Finding::Fields {
+        first: place(verb, first),
+        word: "and",
+        second: place(verb, second),
+        what,
+    }
+}

@@ -1,4 +1,0 @@
-use Rattle.room_replies.proofs.replies.refusal.Goals as goal
-
-pub returns : goal.returns
-returns c = rw (c.as_str.ensures.value, c.in_ok-page.ensures) at c.reply.ensures

@@ -1,0 +1,14 @@
+pub mod Alone
+pub mod Counts
+pub mod HeadDecided
+pub mod Filled
+pub mod Undecided
+pub mod Fronts
+pub mod Literals
+pub mod Numbers
+pub mod Parts
+pub mod Routing
+pub mod Rows
+pub mod Seeks
+pub mod Slashes
+pub mod VisitDecided

@@ -1,0 +1,10 @@
+pub mod Heads
+pub mod Parts
+pub mod Reading
+pub mod Asked
+pub mod Matched
+pub mod Pages
+pub mod Queries
+pub mod Targets
+pub mod Replies
+pub mod Visits

@@ -1,5 +1,0 @@
-pub mod Asked
-pub mod Matched
-pub mod Pages
-pub mod Queries
-pub mod Targets

@@ -1,2 +1,0 @@
-mod Families
-mod Nodes

@@ -1,6 +1,0 @@
-mod Carried
-mod Closed
-mod Counted
-mod Found
-mod Idle
-mod Seen

@@ -1,4 +1,0 @@
-pub mod Folds
-pub mod Gathered
-pub mod Occurring
-pub mod Outcome

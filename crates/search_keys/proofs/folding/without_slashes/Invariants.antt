@@ -1,6 +1,0 @@
-use Rattle.std.proofs.Common.{◌≡◌, map, take}
-use Rattle.search_keys.specs.Folding.{unslashed}
-use Rattle.search_keys.proofs.folding.without_slashes.Given as goal
-
-abbrev pub invariant-each : goal.invariant-each
-invariant-each l = l.out.items ≡ map unslashed (take l.character-index l.characters)

@@ -1,5 +1,0 @@
-use Rattle.search_keys.proofs.Outcome.{all_occur_says}
-use Rattle.search_keys.proofs.laws.words_occur_where_each_begins_one.Goals as goal
-
-pub returns : goal.returns
-returns c = all_occur_says

@@ -1,3 +1,0 @@
-pub mod Folding
-pub mod Scans
-pub mod Words

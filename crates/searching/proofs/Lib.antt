@@ -1,0 +1,6 @@
+pub mod Folds
+pub mod Gathered
+pub mod Occurring
+pub mod Outcome
+pub mod Names
+pub mod Walked

@@ -1,0 +1,210 @@
+//! What is searched, and the words that are searched for.
+
+ghost use Rattle.std.specs.Prelude.{◌≡◌, ◌≢◌, ◌↔◌, ◌++◌, [], ◌∷◌, true, map, IfOk, OnOk, IsTrue, chars};
+ghost use Rattle.std.specs.List.{list_all};
+ghost use Rattle.searching.specs.Folding.{folded_name, folded_text};
+ghost use Rattle.searching.specs.Scans.{begins_text, items, keys, occurs_in};
+ghost use Rattle.searching.specs.Words.{
+  all_occur as occur_test,
+  filled,
+  is_apostrophe as apostrophe_test,
+  is_letter as letter_test,
+  is_word as word_test,
+  words_of,
+};
+
+use crate::folding;
+use std::alloc::{AllocError, Global};
+use std::marker::Model;
+use ucd_category::{GeneralCategory, GeneralCategoryGroup};
+
+/// A text as a search compares it. Contracts see it as its code points.
+#[derive(Debug, Drop)]
+pub struct SearchText {
+    characters: Vec<char>,
+}
+
+impl Model for SearchText {
+    ghost use Rattle.std.specs.Prelude.{List, ℕ};
+
+    ghost Value = { List ℕ };
+
+    ghost view = { λ a. a.characters.items };
+}
+
+impl SearchText {
+    /// Any text but the name of a person.
+    pub fn of_text(alloc: Global, text: &str) -> Result<SearchText, AllocError>
+        ensures { IfOk result (λ t. t ≡ folded_text (chars text.now)) }
+    {
+        Ok(SearchText {
+            characters: folding::text(alloc, text)?,
+        })
+    }
+
+    /// The name of a person, in which a slash parts no word.
+    pub fn of_name(alloc: Global, name: &str) -> Result<SearchText, AllocError>
+        ensures { IfOk result (λ t. t ≡ folded_name (chars name.now)) }
+    {
+        Ok(SearchText {
+            characters: folding::name(alloc, name)?,
+        })
+    }
+}
+
+/// The words that are searched for. Contracts see each as its code points.
+#[derive(Debug, Drop)]
+pub struct SearchWords {
+    words: Vec<Vec<char>>,
+}
+
+impl Model for SearchWords {
+    ghost use Rattle.std.specs.Prelude.{List, ℕ};
+    ghost use Rattle.searching.specs.Scans.{keys};
+
+    ghost Value = { List (List ℕ) };
+
+    ghost view = { λ a. keys a.words };
+}
+
+impl SearchWords {
+    /// No word. Takes no memory.
+    pub fn new(alloc: Global) -> SearchWords
+        ensures { result ≡ [] }
+    {
+        SearchWords {
+            words: Vec::new(alloc),
+        }
+    }
+
+    /// Puts the words of a text after those that are there, and answers whether it has some.
+    pub fn add(&mut self, alloc: Global, text: &str) -> Result<bool, AllocError>
+        ensures added { OnOk result (self.new ≡ self.old ++ words_of (folded_text (chars text.now))) }
+        ensures some { IfOk result (λ some. IsTrue some ↔ (words_of (folded_text (chars text.now)) ≢ [])) }
+    {
+        let before = self.words.len();
+        let characters = folding::text(alloc, text)?;
+        push_words(alloc, &mut self.words, &characters)?;
+        Ok(before < self.words.len())
+    }
+
+    /// Whether no word is searched for. Takes no memory.
+    pub fn is_empty(&self) -> bool
+        ensures { IsTrue result ↔ (self.now ≡ []) }
+    {
+        self.words.is_empty()
+    }
+
+    /// Whether each of the words begins a word of the text. Takes no memory.
+    pub fn occur_in(&self, text: &SearchText) -> bool
+        ensures { result ≡ occur_test self.now text.now }
+    {
+        all_occur(&self.words, &text.characters)
+    }
+}
+
+/// Puts the words of a folded text after those that are there.
+fn push_words(alloc: Global, words: &mut Vec<Vec<char>>, text: &[char]) -> Result<(), AllocError>
+    ensures { OnOk result (keys words.new ≡ keys words.old ++ words_of text.now) }
+{
+    let mut word = Vec::new(alloc);
+    let mut rest = text;
+    'each: while let Some((c, after)) = rest.split_first() {
+        if is_word(*c) {
+            word.push(*c)?;
+        } else if !is_apostrophe(*c) {
+            push_word(words, word)?;
+            word = Vec::new(alloc);
+        }
+        rest = after;
+    }
+    push_word(words, word)
+}
+
+/// One more word, unless it is empty.
+fn push_word(words: &mut Vec<Vec<char>>, word: Vec<char>) -> Result<(), AllocError>
+    ensures { OnOk result (keys words.new ≡ keys words.old ++ filled (word.items ∷ [])) }
+{
+    if !word.is_empty() {
+        words.push(word)?;
+    }
+    Ok(())
+}
+
+/// Whether each of the words begins a word of the text.
+fn all_occur(words: &[Vec<char>], text: &[char]) -> bool
+    ensures { result ≡ list_all (λ w. occurs_in w true text.now) (map items words.now) }
+{
+    'each: for word in words {
+        if !occurs(word, text) {
+            return false;
+        }
+    }
+    true
+}
+
+/// Whether the word begins a word of the text.
+fn occurs(word: &[char], text: &[char]) -> bool
+    ensures { result ≡ occurs_in word.now true text.now }
+{
+    let mut begins = true;
+    let mut rest = text;
+    'each: while let Some((c, after)) = rest.split_first() {
+        let within = is_word(*c);
+        if within && begins && begins_here(word, rest) {
+            return true;
+        }
+        begins = !within;
+        rest = after;
+    }
+    false
+}
+
+/// Whether the text begins with the word, where apostrophes are no part of it.
+fn begins_here(word: &[char], text: &[char]) -> bool
+    ensures { result ≡ begins_text word.now text.now }
+{
+    let mut left = word;
+    let mut rest = text;
+    'each: while let Some((first, after)) = left.split_first() {
+        let Some((c, more)) = rest.split_first() else {
+            return false;
+        };
+        if !is_apostrophe(*c) {
+            if *first != *c || !is_word(*c) {
+                return false;
+            }
+            left = after;
+        }
+        rest = more;
+    }
+    true
+}
+
+/// A letter or a digit that is no apostrophe.
+fn is_word(c: char) -> bool
+    ensures { result ≡ word_test c }
+{
+    !is_apostrophe(c) && is_letter(c)
+}
+
+/// A letter or a digit: categories L and N of The Unicode Standard, section 4.5.
+#[tactic(auto, unfolding(crate::specs::Words::is_letter))]
+fn is_letter(c: char) -> bool
+    ensures { result ≡ letter_test c }
+{
+    let category = GeneralCategory::for_char(c);
+    GeneralCategoryGroup::Letter.contains(category)
+        || GeneralCategoryGroup::Number.contains(category)
+}
+
+/// An apostrophe, or what is written for one.
+#[tactic(auto, unfolding(crate::specs::Words::is_apostrophe))]
+fn is_apostrophe(c: char) -> bool
+    ensures { result ≡ apostrophe_test c }
+{
+    matches!(
+        c,
+        '\'' | '`' | '\u{2BB}' | '\u{2BC}' | '\u{2018}' | '\u{2019}'
+    )
+}

@@ -1,3 +1,0 @@
-pub mod Masked
-mod Own
-mod Sound

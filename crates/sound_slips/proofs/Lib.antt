@@ -1,5 +1,0 @@
-pub mod Loops
-pub mod Rising
-pub mod BeforeAll
-pub mod Inside
-pub mod Below

@@ -1,9 +1,0 @@
-use Rattle.std.proofs.lemmas.Bool.Decides.{Decides-at}
-use Rattle.sound_slips.specs.Parts.{changed}
-use Rattle.sound_slips.specs.Rising.{rises_from}
-use Rattle.sound_slips.proofs.Rising.{rise}
-use Rattle.sound_slips.proofs.numbers.are_in_order.Goals as goal
-
-pub returns : goal.returns
-returns c = Decides-at c.rise_from.result (rises_from 0 (changed c.args.changes.now)) c.rise_from.ensures
-    (rise 0 (changed c.args.changes.now))

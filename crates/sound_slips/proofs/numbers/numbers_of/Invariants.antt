@@ -1,6 +1,0 @@
-use Rattle.std.proofs.Common.{◌≡◌, take}
-use Rattle.sound_slips.specs.Parts.{changed}
-use Rattle.sound_slips.proofs.numbers.numbers_of.Given as goal
-
-abbrev pub invariant-changes : goal.invariant-changes
-invariant-changes l = l.numbers.items ≡ changed (take l.change-index l.changes)

@@ -1,5 +1,0 @@
-pub mod Parts
-pub mod Rising
-pub mod Olds
-pub mod Clashes
-pub mod Below

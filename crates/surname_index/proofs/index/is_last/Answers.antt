@@ -1,5 +1,0 @@
-use Rattle.surname_index.proofs.Adding.{last_is}
-use Rattle.surname_index.proofs.index.is_last.Goals as goal
-
-pub returns-in-Some : goal.returns-in-Some
-returns-in-Some c = last_is c.args.number c.in-Some.last.now c.args.numbers.now c.in-Some.ensures.value

@@ -1,0 +1,9 @@
+mod Counting
+mod Found
+mod Judged
+mod Linked
+mod Shown
+mod Spanned
+mod Days
+mod Rising
+mod Seen

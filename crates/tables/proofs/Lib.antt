@@ -1,8 +1,0 @@
-mod Entered
-mod Firsts
-pub mod InTurn
-mod OnTheWay
-mod One
-mod Outcomes
-pub mod Refused
-mod Served

@@ -1,5 +1,0 @@
-use Rattle.tables.proofs.One.{one_thing}
-use Rattle.tables.proofs.laws.a_row_asks_for_one_thing.Goals as goal
-
-pub returns : goal.returns
-returns c = one_thing

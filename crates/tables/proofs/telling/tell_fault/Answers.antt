@@ -1,5 +1,0 @@
-use Rattle.tables.proofs.InTurn.{wants}
-use Rattle.tables.proofs.telling.tell_fault.Goals as goal
-
-pub returns-in_default : goal.returns-in_default
-returns-in_default g c = wants _ _ _

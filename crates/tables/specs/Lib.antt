@@ -1,5 +1,0 @@
-pub mod Answers
-pub mod Applying
-pub mod Entering
-pub mod Requests
-pub mod RowByRow

@@ -1,8 +1,0 @@
-use Rattle.std.proofs.Common.{◌∙◌, ◌<◌, ap, arith, length, rules, sym}
-use Rattle.unit_lines.specs.Moves.{next_body}
-use Rattle.unit_lines.proofs.FirstLines.{empty, none}
-use Rattle.unit_lines.proofs.moves.next_body.Goals as goal
-
-pub returns : goal.returns
-returns c = let h : length c.lines.rest.now < 1 = first_of (search rules, grind arith) in
-    empty c.lines.rest.now h ∙ (sym (ap next_body (none c.lines.rest.now h)) ∙ c.lines.invariant)

@@ -1,4 +1,0 @@
-pub mod Lines
-pub mod Heads
-pub mod Moves
-pub mod Kept

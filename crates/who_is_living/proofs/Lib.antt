@@ -1,5 +1,0 @@
-pub mod Adding
-pub mod Told
-pub mod Ended
-pub mod Life
-pub mod Judging

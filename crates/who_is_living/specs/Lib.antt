@@ -1,4 +1,0 @@
-pub mod Sets
-pub mod Telling
-pub mod Evidence
-pub mod Judged

@@ -1,5 +1,0 @@
-mod Loops
-mod Members
-mod Nodes
-mod Sides
-mod Whole

@@ -1,8 +1,0 @@
-use Rattle.std.proofs.Common.{◌≡◌, ℕ, drop}
-use Rattle.import_forest.specs.Numbers.{or_else}
-use Rattle.whole_families.specs.Carried.{line_among, line_kept}
-use Rattle.whole_families.proofs.kept.lines_by_person.Given as goal
-
-abbrev pub invariant-loop-side : goal.invariant-loop-side
-invariant-loop-side l = (n : ℕ) → or_else (line_kept l.lines n) (line_among (drop l.side-index l.sides) n)
-    ≡ line_among l.sides n
