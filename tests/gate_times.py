@@ -1,4 +1,4 @@
-"""Measures a run of the gate, crate by crate, and writes it as the table of docs/GATE.md.
+"""Measures a run of the gate, crate by crate, and prints it as the table of docs/GATE.md.
 
     python3 tests/gate_times.py COMMAND..
 
@@ -19,6 +19,8 @@ import sys
 import threading
 import time
 from dataclasses import dataclass
+
+from generated import gate_rows, measured_so_far
 
 TICKS = os.sysconf("SC_CLK_TCK")
 LOOK_EVERY = 0.5
@@ -114,23 +116,20 @@ def seconds_of(rows, part):
     return sum(row.seconds for row in rows if row.part == part)
 
 
-def cell(rows, part):
-    those = [row for row in rows if row.part == part]
-    return f"{seconds_of(rows, part):.0f} s" if those else "-"
+def figures(rows):
+    """Of a crate's processes: the seconds of its proof, the GB of the largest, the seconds of its edits."""
+    proof, edits = seconds_of(rows, "proof"), seconds_of(rows, "edits")
+    largest = max(row.peak for row in rows) / 1024 / 1024
+    return f"{proof:.0f}", f"{largest:.1f}", f"{edits:.0f}" if edits else "-"
 
 
-def table(seen, edits):
-    yield "| crate | proof | tests | edits: number, processor | largest |"
-    yield "|---|---|---|---|---|"
-    rows = list(seen.values())
-    for crate in sorted({row.crate for row in rows}):
-        its = [row for row in rows if row.crate == crate]
-        tried = f"{edits.get(crate, 0)}, {seconds_of(its, 'edits'):.0f} s"
-        largest = max(row.peak for row in its) / 1024 / 1024
-        yield (
-            f"| `{crate}` | {cell(its, 'proof')} | {cell(its, 'tests')} "
-            f"| {tried if edits.get(crate) else '-'} | {largest:.1f} GB |"
-        )
+def table(seen):
+    """The table of docs/GATE.md with these figures; the last runs of the edits aside stay as they are there."""
+    rows, known = list(seen.values()), measured_so_far()
+    for crate in {row.crate for row in rows}:
+        last = known.get(crate, ("-", "-", "-", "-"))[3]
+        known[crate] = (*figures([row for row in rows if row.crate == crate]), last)
+    yield from gate_rows(known)
     whole = ", ".join(f"{part} {seconds_of(rows, part):.0f} s" for part in ("proof", "tests", "edits"))
     yield f"Sums: {whole}; largest process {max((row.peak for row in rows), default=0) / 1024 / 1024:.1f} GB."
 
@@ -138,7 +137,7 @@ def table(seen, edits):
 def main(command):
     if not command:
         sys.exit(__doc__)
-    seen, edits, is_over = {}, {}, threading.Event()
+    seen, is_over = {}, threading.Event()
     begun = time.monotonic()
     with subprocess.Popen(
         command, stdout=subprocess.PIPE, stderr=subprocess.STDOUT, text=True, errors="replace"
@@ -147,14 +146,11 @@ def main(command):
         watcher.start()
         for line in run.stdout:
             print(line, end="", flush=True)
-            tried = re.match(r"rt: (\w+): trying its must-fail edits \((\d+)\)", line)
-            if tried:
-                edits[tried[1]] = int(tried[2])
     is_over.set()
     watcher.join()
     used = resource.getrusage(resource.RUSAGE_CHILDREN)
     wall = time.monotonic() - begun
-    print("\n" + "\n".join(table(seen, edits)))
+    print("\n" + "\n".join(table(seen)))
     print(
         f"Wall {wall // 60:.0f} min {wall % 60:.0f} s; processor {(used.ru_utime + used.ru_stime) / 60:.1f} min; "
         f"{os.cpu_count()} processors."

@@ -2,7 +2,9 @@
 
 No line of a text has more than 120 characters, but for those that cannot be broken: what a command of
 a document prints, a line with one long word (an address), and those of LONGER. README.md is read by
-newcomers and has under 1,200 words. A link of a document to a file of the repository leads to one.
+newcomers and has under 1,200 words. A link of a document to a file of the repository leads to one. The
+parts of documents that repeat the sources are as tests/generated.py writes them, and the calls, the
+definitions and the other names that documents cite are there. Each type and function is imported by one path.
 """
 
 from __future__ import annotations
@@ -10,7 +12,9 @@ from __future__ import annotations
 import os
 import re
 
+import generated
 from harness import ROOT, Case, Tools, demand
+from import_paths import second_paths
 
 LONGEST = 120  # characters
 WORDS_OF_README = 1_200
@@ -44,6 +48,7 @@ LONGER = {
 
 LINK = re.compile(r"\]\(([^)\s]+)\)")
 CODE = re.compile(r"^ *```.*?^ *```$|`[^`\n]*`", re.DOTALL | re.MULTILINE)
+CODE_BLOCK = re.compile(r"^ *```.*?^ *```$", re.DOTALL | re.MULTILINE)
 CONSOLE = re.compile(r"^```console\n.*?^```$", re.DOTALL | re.MULTILINE)
 
 
@@ -123,8 +128,107 @@ def links_lead_to_files():
     demand(not found, f"links that lead to no file: {', '.join(found[:20])}")
 
 
+def parts_are_generated():
+    found = list(generated.differing())
+    demand(not found, f"run tests/generated.py, since these parts are not as it writes them: {', '.join(found)}")
+
+
+NAMED = re.compile(r"((?:`\w+`(?:, | and | )?)+)\((?:([a-z_]+): )?([A-Z]\w*(?:, [A-Z]\w*)*)[;)]")
+
+
+def lost_definitions(document):
+    """What a document says by hand: names, and in brackets the crate (that of before if none) and the files."""
+    crate = None
+    by_hand = " ".join(re.sub(r"<!-- generated.*?<!-- end", "", text_of(document), flags=re.DOTALL).split())
+    for names, its, files in NAMED.findall(by_hand):
+        crate = its or crate
+        text = "".join(text_of(f"crates/{crate}/specs/{file}.antt") for file in files.split(", "))
+        for name in re.findall(r"`(\w+)`", names):
+            if not re.search(rf"\bpub (?:record |data )?{name}(?!\w)", text):
+                yield f"{name} of {crate}: {files}"
+
+
+def definitions_are_named():
+    found = [lost for name in ("DEFINITIONS", "ARCHITECTURE") for lost in lost_definitions(f"docs/{name}.md")]
+    demand(not found, f"documents name definitions that are not there: {', '.join(found)}")
+
+
+CALL = re.compile(r"\b([a-z]\w+)::([a-z]\w+)")
+
+
+def lost_calls():
+    """The calls of ARCHITECTURE.md with their crates that no file of the crate has."""
+    for crate, call in sorted(set(CALL.findall(text_of("docs/ARCHITECTURE.md")))):
+        sources = generated.paths(f"crates/{crate}/src/**/*.rt")
+        if not any(re.search(rf"\bfn {call}\b", text_of(path)) for path in sources):
+            yield f"{crate}::{call}"
+
+
+def calls_are_there():
+    found = list(lost_calls())
+    demand(not found, f"ARCHITECTURE.md names calls that are not there: {', '.join(found)}")
+
+
+# Documents for whoever changes the project, and names of the kit in them.
+CITING = ("ARCHITECTURE", "CONTRIBUTING", "DECISIONS", "GATE", "PROVED")
+OF_THE_KIT = {"open_files", "open_from"}
+CITED = re.compile(r"`([A-Za-z]\w*_\w+)`")
+
+
+def names():
+    """The names of the sources: words with a `_` of code, definitions, proofs and tests, and those of edits."""
+    found = set(generated.crates()) | OF_THE_KIT
+    for pattern in ("crates/*/src/**/*.rt", "crates/*/*/**/*.antt", "tests/**/*.py"):
+        for path in generated.paths(pattern):
+            found.update(re.findall(r"\b[A-Za-z]\w*_\w+", text_of(path)))
+    for path in generated.paths("crates/*/must-fail/*.edit") + generated.paths("tests/edits/*/*.edit"):
+        found.add(os.path.splitext(os.path.basename(path))[0])
+    return found
+
+
+def cited_names_are_there():
+    known = names()
+    texts_of = {name: CODE_BLOCK.sub("", text_of(f"docs/{name}.md")) for name in CITING}
+    lost = [f"{name}: {word}" for name, text in texts_of.items() for word in CITED.findall(text) if word not in known]
+    demand(not lost, f"documents name what is not there: {', '.join(lost[:20])}")
+
+
+def source(path):
+    return text_of(path) if os.path.exists(os.path.join(ROOT, path)) else None
+
+
+def imports_have_one_path():
+    found = [why for crate in generated.crates() for why in second_paths(source, crate)]
+    demand(not found, f"{len(found)} have a second import path: {', '.join(found[:20])}")
+
+
+# A crate with one path to each item, and what is wrong with it if one of its files is another.
+LIB, PART = "crates/made/src/lib.rt", "crates/made/src/part.rt"
+MADE = {LIB: "mod part;\npub mod laws;\npub use part::{One, two};\n", PART: "pub struct One;\npub fn two() {}\n"}
+SECOND_PATHS = (
+    (LIB, MADE[LIB].replace("mod part;", "pub mod part;"), ["One", "two"]),
+    (LIB, MADE[LIB] + "pub use part::two as three;\n", ["two"]),
+    (LIB, MADE[LIB] + "pub use other::{Four, five::six};\n", ["made::Four", "made::six"]),
+    (LIB, MADE[LIB] + "pub use part::*;\n", ["made::*"]),
+    (PART, "pub use other::One;\npub fn two() {}\n", ["made::One"]),
+)
+
+
+def second_paths_are_found():
+    demand(not list(second_paths(MADE.get, "made")), "a crate with one path to each item has a second one")
+    for path, text, wanted in SECOND_PATHS:
+        found = [why.split()[0] for why in second_paths({**MADE, path: text}.get, "made")]
+        demand(found == wanted, f"{text!r}: {found}")
+
+
 def cases(_tools: Tools):
     yield Case("layout: lines have at most 120 characters", lines_are_short)
     yield Case("layout: the exceptions for long lines are needed", exceptions_are_needed)
     yield Case("layout: README.md has under 1,200 words", readme_is_short)
     yield Case("layout: links of documents lead to files", links_lead_to_files)
+    yield Case("layout: parts of documents that repeat sources are generated", parts_are_generated)
+    yield Case("layout: the definitions that documents name are there", definitions_are_named)
+    yield Case("layout: the calls that ARCHITECTURE.md names are there", calls_are_there)
+    yield Case("layout: the names that documents cite are there", cited_names_are_there)
+    yield Case("layout: each type and function has one import path", imports_have_one_path)
+    yield Case("layout: a second import path is found", second_paths_are_found)
