@@ -50,6 +50,7 @@ import stops  # noqa: E402
 import streams  # noqa: E402
 import unsound  # noqa: E402
 import untouched  # noqa: E402
+import verbs  # noqa: E402
 import visitors  # noqa: E402
 import visits  # noqa: E402
 import wants  # noqa: E402
@@ -88,6 +89,7 @@ PARTS = (
     releases,
     documents,
     refusals,
+    verbs,
     files,
     layout,
 )
