@@ -1,5 +1,5 @@
-"""`audit` by the executable: whether an archive is sound, over archives that Python's sqlite3 has spoilt, each beside a
-neighbour that is sound (spoilt.py)."""
+"""`audit` by the executable, over archives that Python's sqlite3 has spoilt, each beside a sound neighbour
+(spoilt.py)."""
 
 from __future__ import annotations
 

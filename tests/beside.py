@@ -1,5 +1,5 @@
-"""What an archive has beside the lines of a record, as tests write it and expect it: the links of the record, and what
-it is looked for by (docs/FORMATS.md, "The tables of an archive").
+"""What the tables have beside the lines of a record, as tests expect it: its links, and what it is looked for by. See
+docs/FORMATS.md, "The tables of an archive".
 
 The lines of a record are written (depth, tag, text, number).
 """

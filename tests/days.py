@@ -1,5 +1,5 @@
-"""`days` by the executable: which events and entries are between two days, and what is told of them. What is expected
-was written by hand from docs/FORMATS.md. Archives of the first version are in earlier.py."""
+"""`days` by the executable: which events and entries are between two days, and what is printed of them. What is
+expected was written by hand from docs/FORMATS.md. Archives of the first version are in earlier.py."""
 
 from __future__ import annotations
 

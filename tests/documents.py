@@ -1,6 +1,6 @@
-"""What the documents show: each command of a block ```console is run, and prints what it has there.
+"""What the documents show: each command of a console is run, and prints what it has there.
 
-A line that begins with `$ ` is a command, run by sh at the top of the repository with both its
+In a block ```console a line that begins with `$ ` is a command, run by sh at the top of the repository with both its
 outputs; the lines below it, up to the next command or the end of the block, are what it prints. Its
 status is looked at only where a command prints it. The commands of the blocks that name `ashby.db`
 are run one after the other, from the block that makes it to the last before one that makes it anew:

@@ -1,7 +1,6 @@
-"""Archives of the first version, taken up by the executable: their dates are read anew, each gets its span, and `days`
-finds by these; and each record gets its links, and what it is looked for by. Some are made here, by statements;
-tests/earlier/archive.db was made by a program of that version, of the rows and the file beside it, and its own export
-lies there too.
+"""Archives of version 1, opened by the executable, which converts their dates and adds spans, links and what records
+are looked for by. `days` finds by the spans. Some are made here, by statements; tests/earlier/archive.db was made by
+a program of that version, of the rows and the file beside it, and its own export lies there too.
 
 What the tables become is worked out beside the program, from docs/FORMATS.md ("Version 1"), by the slow reader of dates
 (`anew`).

@@ -1,4 +1,4 @@
-"""How a command that reads an archive ends: where there is none, where its reader leaves, where memory is refused."""
+"""How a command that reads an archive ends if there is none, if its reader leaves, or if memory is refused."""
 
 from __future__ import annotations
 

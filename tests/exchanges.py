@@ -1,5 +1,5 @@
-"""An archive of all that is awkward, exported, imported into an empty one, and compared with it record by record;
-and an export that is cut anywhere."""
+"""An archive of everything awkward, exported, imported into an empty one, and compared record by record. And an
+export that is cut anywhere."""
 
 from __future__ import annotations
 

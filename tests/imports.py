@@ -1,4 +1,4 @@
-"""Files imported into archives: what is told, what stays, what a stop leaves, and what comes out again."""
+"""Files imported into archives: what is reported, what stays, what a stop leaves, and what an export has."""
 
 from __future__ import annotations
 

@@ -1,4 +1,4 @@
-"""Puts the libraries that `rt ci` keeps on this machine into crates/*/out, for a check of what stands on them.
+"""Puts the libraries that `rt ci` keeps on this machine into crates/*/out, for a check of the crates above them.
 
     python3 tests/kept_libraries.py NAME..
 

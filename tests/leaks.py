@@ -1,7 +1,8 @@
-"""The search for what is hidden. In drawn archives each text is a word that comes once (shown/drawn.py). A word that on
-that day only hidden records hold must be in no sheet of any number and kind, on no page of the room, in no head of an
-answer, in no public export and in no refusal. Which words these are is decided by a second reading of docs/LIVING.md
-(masking/rules.py), and not by the program.
+"""No sheet, page, public export or refusal of drawn archives has a word that only hidden records hold. In these
+archives each text is a word that comes once (shown/drawn.py). A word that on that day only hidden records hold must
+be in no sheet of any number and kind, on no page of the room, in no head of an answer, in no public export and in no
+refusal. Which words these are is decided by a second reading of docs/LIVING.md (masking/rules.py), and not by the
+program.
 
     python3 tests/leaks.py [--parish COMMAND] [ARCHIVES [SEED]]
 

@@ -1,5 +1,5 @@
-"""`list`, `find` and `show` by the executable: which records there are, and what is told of each, with nothing masked.
-What is expected was written by hand from docs/FORMATS.md."""
+"""`list`, `find` and `show` by the executable: which records there are, and what is printed of each, with nothing
+masked. What is expected was written by hand from docs/FORMATS.md."""
 
 from __future__ import annotations
 

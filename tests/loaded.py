@@ -1,6 +1,6 @@
-"""A program written in Python that is loaded once, and then run for many command lines: of a slow reader most of a run
-is the start of Python. `Loaded` is the one side; run as a program, `python3 tests/loaded.py PROGRAM.py`, this file is
-the other: it has the modules that PROGRAM.py imports, and for each command line forks a process of its own, which runs
+"""A program written in Python, loaded once and then run for many command lines. Of a slow reader most of a run is the
+start of Python. `Loaded` is the one side; run as a program, `python3 tests/loaded.py PROGRAM.py`, this file is the
+other: it has the modules that PROGRAM.py imports, and for each command line forks a process of its own, which runs
 PROGRAM.py from its beginning, as `python3 PROGRAM.py WORDS..` does.
 
 A call is a line of JSON, the words and the length of the input, and the input; its answer is such a line too, the

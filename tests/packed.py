@@ -1,6 +1,6 @@
-"""The lines of a record in one row of `line`, and those of a side of a slip in one of `slip_line`, as tests write them
-and expect them (docs/FORMATS.md, "The tables of an archive"): the first line's tag and number in columns, and all else
-in the packed text.
+"""The packed text of a record's lines, as tests expect it. See docs/FORMATS.md, "The tables of an archive". They
+are in one row of `line`, and those of a side of a slip in one of `slip_line`: the first line's tag and number in
+columns, and all else in the packed text.
 
 The lines of a record are written (depth, tag, text, number).
 """

@@ -1,4 +1,4 @@
-"""The numbers and names of refusals, wherever they are told: four crates and docs/REFUSALS.md.
+"""The numbers and names of refusals, the same wherever they are: in four crates and docs/REFUSALS.md.
 
 The crate of files and the crate of the archive each have a definition that gives a kind its number, and one
 that gives it its name; the calls `number` and `name` are proved to answer these. The crates of lines and of

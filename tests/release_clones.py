@@ -1,4 +1,4 @@
-"""A small clone in which `./release` can be tried: its `rt` proves nothing, and its program prints a version."""
+"""The small clone in which `./release` is tried. Its `rt` proves nothing, and its program prints a version."""
 
 from __future__ import annotations
 

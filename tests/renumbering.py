@@ -1,5 +1,5 @@
-"""The records of two archives, the same up to their numbers. A record is its kind, and its lines: each a depth, a tag,
-a text and the number of a record or none."""
+"""Whether two archives have the same records up to their numbers. A record is its kind, and its lines: each a depth,
+a tag, a text and the number of a record or none."""
 
 from __future__ import annotations
 

@@ -40,6 +40,7 @@ import memory  # noqa: E402
 import merges  # noqa: E402
 import properties  # noqa: E402
 import queries  # noqa: E402
+import readme_lines  # noqa: E402
 import refusals  # noqa: E402
 import releases  # noqa: E402
 import rooms  # noqa: E402
@@ -88,6 +89,7 @@ PARTS = (
     scripts,
     releases,
     documents,
+    readme_lines,
     refusals,
     verbs,
     files,

@@ -1,5 +1,5 @@
-"""Sheets and public exports by the executable: `sheet` and `export --public`. What is expected was written by hand from
-docs/FORMATS.md and docs/LIVING.md, or is what the second reading in `shown/` makes of drawn archives."""
+"""`sheet` and `export --public` by the executable. What is expected was written by hand from docs/FORMATS.md and
+docs/LIVING.md, or is what the second reading in `shown/` makes of drawn archives."""
 
 from __future__ import annotations
 

@@ -1,5 +1,5 @@
-"""Archives that somebody else has spoilt: of each rule of a sound archive (docs/FORMATS.md, "What an archive holds") a
-change of the tables that breaks it, and beside it one that breaks none. Python's sqlite3 makes both.
+"""Archives that somebody else has spoilt: for each rule one that breaks it, and a neighbour that breaks none. The
+rules are those of a sound archive (docs/FORMATS.md, "What an archive holds"); Python's sqlite3 makes both.
 
 The lines of a record are written (depth, tag, text, number).
 """

@@ -1,4 +1,4 @@
-"""Stops: each call of a command on one of an archive's two files fails in turn, or the power goes off behind it.
+"""Stops: each call of a command on one of an archive's two files fails in turn, or the power goes off after it.
 
 A command is done once to its end. Then, of the file and of the log beside it, so many calls go well and each one after
 them fails (fail.c), from none on until a run meets no such call; and the power goes off behind each write, cut and sync

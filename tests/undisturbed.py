@@ -1,4 +1,4 @@
-"""Commands on an archive, what they answer and leave where nothing disturbs them, and archives to disturb them in."""
+"""Commands on an archive, what they answer and leave if nothing stops them, and archives to stop them in."""
 
 from __future__ import annotations
 

@@ -1,6 +1,6 @@
-"""Archives that somebody else has spoilt (spoilt.py), given to every command. What only reads leaves all tables as they
-are. What shows an archive to visitors shows nothing of one that is not sound, and never the name of a living person.
-What is refused changes nothing."""
+"""Archives that somebody else has spoilt (spoilt.py), under every command: what is shown, refused and left. What only
+reads leaves all tables as they are. What shows an archive to visitors shows nothing of one that is not sound, and
+never the name of a living person. What is refused changes nothing."""
 
 from __future__ import annotations
 

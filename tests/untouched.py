@@ -1,5 +1,5 @@
-"""What a refused command line, and a FILE that is refused, do not touch: standard output, standard input, the file and
-what lies beside it.
+"""What a refused command line and a refused FILE leave untouched: standard input, standard output, the file and its
+folder.
 
 Standard input is a file whose place the program and the test share, so that each byte that is read moves it; or a pipe,
 of which nothing may be gone.

@@ -1,5 +1,5 @@
-"""Visitors of the reading room of all manners: who leave, send a byte at a time, say nothing, do not read, do not
-close, come too late, or from elsewhere; and how the room is opened and ends."""
+"""Visitors of the reading room who leave, send a byte at a time, say nothing, do not read or close, or come too late
+or from elsewhere; and how the room is opened and ends."""
 
 from __future__ import annotations
 

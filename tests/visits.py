@@ -1,4 +1,4 @@
-"""Requests and their answers, byte for byte, by a room of the tests' own (crates/visit_rows): it shows the records of
+"""Requests and their answers, byte for byte, by a room of the tests' own (crates/visit_rows). It shows the records of
 odd numbers, by a word and the number. What is expected follows docs/FORMATS.md, "The reading room".
 """
 
