@@ -11,4 +11,6 @@ mod command_words;
 #[cfg(test)]
 mod days;
 #[cfg(test)]
+mod pages;
+#[cfg(test)]
 mod transfers;

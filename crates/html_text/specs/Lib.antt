@@ -1,0 +1,5 @@
+pub mod Escapes
+pub mod Names
+pub mod Pages
+pub mod Marks
+pub mod Outside
