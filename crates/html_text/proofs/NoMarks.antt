@@ -1,5 +1,32 @@
 -- No byte of an escaped text is one of markup.
-use Rattle.std.proofs.Common.{◌≡◌, refl, ℕ, ◌+◌, ◌/◌, ◌%◌, nat_lt, ◌≤◌, Bool, true, false, cond, not, nat_eq, ◌||◌, ◌&&◌, List, [], ◌∷◌, codes, flat_map, encode_utf8_all, ap, sym, ◌∙◌, arith}
+use Rattle.std.proofs.Common.{
+  ◌≡◌,
+  refl,
+  ℕ,
+  ◌+◌,
+  ◌/◌,
+  ◌%◌,
+  nat_lt,
+  ◌≤◌,
+  Bool,
+  true,
+  false,
+  cond,
+  not,
+  nat_eq,
+  ◌||◌,
+  ◌&&◌,
+  List,
+  [],
+  ◌∷◌,
+  codes,
+  flat_map,
+  encode_utf8_all,
+  ap,
+  sym,
+  ◌∙◌,
+  arith,
+}
 use Rattle.std.specs.List.{list_all}
 use Rattle.std.specs.Char.{encode_utf8}
 use Rattle.std.proofs.lemmas.Bool.Decides.{nat_tests}

@@ -1,7 +1,7 @@
 //! The text of a page of HTML 5 (HTML Living Standard, section 13.1), in which no text of a caller can be markup.
 //!
-//! - `page`: a `Page` grows by start tags, end tags and texts, and by nothing else, so whoever writes one cannot write a
-//!   text that is not escaped.
+//! - `page`: a `Page` grows by start tags, end tags and texts, and by nothing else, so whoever writes one cannot write
+//!   a text that is not escaped.
 //! - `names`: the elements and attributes that pages have.
 //! - `laws`: outside of tags a page has the escaped texts and nothing else; an escaped text has no character of markup.
 //!
