@@ -29,7 +29,7 @@ use Rattle.std.proofs.Common.{
   not,
   bytes_eq,
 }
-use Rattle.std.specs.Prelude.{◌==◌, Option, Some, None}
+use Rattle.std.specs.Prelude.{◌==◌, ◌≢◌, Option, Some, None}
 use Rattle.std.specs.List.{list_any, flat_map}
 use Rattle.std.specs.FinMap.{get, insert, empty, get-insert, get-empty}
 use Rattle.std.specs.Ordering.{nat_cmp}
@@ -45,6 +45,7 @@ use Rattle.stored_lines.specs.Line.{Label}
 use Rattle.record_text.specs.declared.refusal.RefusalKind.{RefusalKind}
 use Rattle.record_text.specs.declared.refusal.RefusalKind.TheVariants.{BadStored}
 use Rattle.record_kinds.specs.declared.record.Record.{Record}
+use Rattle.records.specs.Shallow.{IsShallow}
 use Rattle.records.specs.Stored.{stored}
 use Rattle.receipts.specs.declared.answer.Receipt.{Receipt}
 use Rattle.archive_state.specs.Content.{Content, Receipts}
@@ -70,6 +71,7 @@ use Rattle.store_rows.specs.Looking.{Sees}
 use Rattle.store_rows.specs.Meaning.{
   Means,
   AreReadable,
+  IsRecordAt,
   IsSlipAt,
   IsShallowSlip,
   is_closed,
@@ -121,6 +123,18 @@ sees_lost {Is = Is} {old = old} {new = new} result is h = subst (Sees Is old new
   clean = h.clean;
 })
 
+-- what was read does not matter
+pub sees_later : {A B : Type 0} {P : Rows → A → Type 0} {Is : Content → B → Type 0} {old mid new : State} {a : A}
+    (result : Result B RefusalKind) → Looks P old mid (Ok a) → Sees Is mid new result → Sees Is old new result
+sees_later result h k = record {
+  read = λ clean. if_ok result (λ b is rows was. is rows (h.same (k.clean clean) rows was)) (k.read clean);
+  same = λ clean. if_ok result (λ b is rows was. is rows (h.same (k.clean clean) rows was)) (k.same clean);
+  refused = λ clean. IfErr-weaker result _ _ (λ kind is rows was. is rows (h.same (k.clean clean) rows was))
+      (k.refused clean);
+  crash = λ clean rows was. k.crash clean rows (h.same (k.clean clean) rows was);
+  clean = λ clean. h.clean (k.clean clean);
+}
+
 -- the same of what was seen
 pub sees_from : {A B : Type 0} {P : Content → A → Type 0} {Is : Content → B → Type 0} {old new : State} {a : A}
     (result : Result B RefusalKind) → Sees P old new (Ok a)
@@ -169,6 +183,15 @@ pub record_some : (n : ℕ) (rows : Rows) (c : Content) (r : Record) → Means r
     → lines_of n rows ≡ stored r → Some r ≡ get c.records n
 record_some n rows c r means has kept = one_at (has_record n rows) (lines_of n rows) (Some r) (get c.records n)
     (sym has, kept) (means.records n)
+
+pub record_bad : (n : ℕ) (rows : Rows) (ls : List (ℕ × Label)) → has_record n rows ≡ true → ls ≡ lines_of n rows
+    → ((r : Record) → IsShallow r → ls ≢ stored r) → AreReadable rows → ⊥
+record_bad n rows ls has is bad readable =
+    go (get readable.0.records n) (λ r. readable.2.records n r) (readable.1.records n)
+  where
+    go : (found : Option Record) → ((r : Record) → found ≡ Some r → IsShallow r) → IsRecordAt rows n found → ⊥
+    go None shallow absent = let no : true ≡ false = sym has ∙ absent in absurd cc
+    go (Some r) shallow at = bad r (shallow r refl) (is ∙ at.1)
 
 -- ---- what is kept under a token
 

@@ -45,6 +45,23 @@ pub fn record_at<S: Alter>(
         (state S.Store conn.new) result }
     ensures ended { conn.new.in_transaction ≡ false }
 {
+    let Some(pack) = keyed::closed_lines_at(alloc, conn, number)? else {
+        return record_by_rows(alloc, conn, number);
+    };
+    Ok(Some(record_of(alloc, &pack.lines)?))
+}
+
+/// The same by a query of each table. 40 also if a record has no lines.
+fn record_by_rows<S: Alter>(
+    alloc: Global,
+    conn: &mut Connection<S>,
+    number: u32,
+) -> Result<Option<Record>, RefusalKind>
+    requires autocommit { conn.old.in_transaction ≡ false }
+    ensures sees { Sees (λ c found. found ≡ map.get c.records number) (state S.Store conn.old)
+        (state S.Store conn.new) result }
+    ensures ended { conn.new.in_transaction ≡ false }
+{
     if !has_record(alloc, conn, number)? {
         return Ok(None);
     }

@@ -32,7 +32,7 @@ use Rattle.std.proofs.Common.{Less}
 use Rattle.sqlite_keyed.proofs.SortLemmas.{sorted_unique}
 use Rattle.sqlite_sql.proofs.QueryLemmas.{output_cmp_total}
 use Rattle.sqlite.specs.Term.{Term, Env, lit, holds, eval_all}
-use Rattle.sqlite.specs.Query.{Query, inner, end, IsAnswer, Output, output, output_cmp}
+use Rattle.sqlite.specs.Query.{Join, Query, inner, end, matches, IsAnswer, Output, output, output_cmp}
 use Rattle.sqlite_value.specs.declared.keys.Key.{Key}
 use Rattle.list_laws.proofs.Lists.{map_map}
 
@@ -59,6 +59,35 @@ simple tree tests project order = record {
   limit = lit (Int (negsuc 0));
   offset = lit (Int (pos 0));
 }
+
+-- the same of several tables, in any order
+abbrev pub joined : Join → List Term → List Term → Query
+joined from tests project = record {
+  from = from;
+  filter = tests;
+  group = None;
+  project = project;
+  distinct = false;
+  collations = [];
+  order = [];
+  limit = lit (Int (negsuc 0));
+  offset = lit (Int (pos 0));
+}
+
+-- what such a query answers: what it shows of each way to fill the places of FROM that passes the tests
+pub joined_answers : (from : Join) (tests project : List Term) (db : Trees) (params : Row) (rows : List Row)
+    → IsAnswer (joined from tests project) db params rows
+    → IsPermutation (map (eval_all project) (matches db tests from (params ∷ []))) rows
+joined_answers from tests project db params rows a =
+    let it = joined from tests project in
+    let all = matches db tests from (params ∷ []) in
+    let kept : a.kept ≡ map (output it) all = a.distinct ∙ ap (map (output it)) a.grouped in
+    let both : map (λ (o : Output). o.1) a.kept ≡ map (eval_all project) all = ap (map (λ (o : Output). o.1)) kept
+    ∙ map_map _ _ all in
+    let moved : IsPermutation (map (λ (o : Output). o.1) a.kept) (map (λ (o : Output). o.1) a.ordered) =
+    IsPermutation-map _ _ _ a.same in
+    subst (λ k. IsPermutation k rows) both
+    (subst (IsPermutation (map (λ (o : Output). o.1) a.kept)) (sym a.shown) moved)
 
 module _ {X : Type 0} (enc : X → Row) (params : Row) (tests : List Term) (q : X → Bool)
     (passes : (x : X) → list_all (holds (params ∷ enc x ∷ [])) tests ≡ q x) where

@@ -5,6 +5,7 @@ mod BatchTexts
 mod Begun
 pub mod Calls
 mod Changing
+mod ClosedQueries
 pub mod Coded
 mod Created
 mod Failing

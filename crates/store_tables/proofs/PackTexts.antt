@@ -2,14 +2,18 @@
 -- of the lines in rows of their own.
 use Rattle.std.proofs.Common.{◌≡◌, pos, List, ℕ, [], ◌∷◌, Bool, true, false, codes, Err, refl}
 use Rattle.sqlite.specs.declared.types.Value.TheVariants.{Null, Int}
-use Rattle.sqlite.specs.Term.{lit, col}
+use Rattle.sqlite.specs.Collation.TheVariants.{Binary}
+use Rattle.sqlite.specs.Query.{Join, inner, end}
+use Rattle.sqlite.specs.Term.{Term, lit, col, op2}
+use Rattle.sqlite_sql.specs.declared.ops.BinaryOp.TheVariants.{Compare}
+use Rattle.sqlite_sql.specs.declared.ops.CompareOp.TheVariants.{Eq}
 use Rattle.sqlite.specs.Source.TheVariants.{Values}
 use Rattle.sqlite.specs.Command.TheVariants.{Insert, Select}
 use Rattle.sqlite_resolve.specs.declared.error.CompileError.{CompileError}
 use Rattle.sqlite_tied.specs.Compute.{everything}
 use Rattle.sqlite.specs.Listing.{understood, reads_listing}
 use Rattle.sqlite.proofs.Callers.{IsPlain, command_of}
-use Rattle.store_tables.proofs.Finding.{simple}
+use Rattle.store_tables.proofs.Finding.{joined, simple}
 use Rattle.store_tables.proofs.Texts.{by_key, with_key}
 use Rattle.store_tables.specs.Schema.{archive_schema}
 
@@ -68,6 +72,37 @@ pack_at_plain true = (refl, refl)
 pub pack_at_unlisted : reads_listing (archive_schema true) pack_at ≡ false
 unfolding understood everything
 pack_at_unlisted = refl
+
+-- the same if the number has a row of a closed batch
+abbrev pub closed_pack_at : List ℕ
+closed_pack_at = codes
+    "SELECT l.no, tag, text, dst FROM record r, batch b, line l WHERE r.no=?1 AND b.no=batch AND is_open=0 AND l.no=?1"
+
+-- what stands at each place of its FROM, and its tests
+abbrev pub closed_from : Join
+closed_from = inner 2 (inner 1 (inner 11 end))
+
+abbrev pub closed_tests : List Term
+closed_tests = op2 (Compare Eq Binary) (col 1 0) (col 0 0) ∷ op2 (Compare Eq Binary) (col 2 0) (col 1 3)
+    ∷ op2 (Compare Eq Binary) (col 2 2) (lit (Int (pos 0))) ∷ op2 (Compare Eq Binary) (col 3 0) (col 0 0) ∷ []
+
+abbrev pub closed_shown : List Term
+closed_shown = col 3 0 ∷ col 3 4 ∷ col 3 5 ∷ col 3 6 ∷ []
+
+pub closed_pack_at_is : command_of (understood (archive_schema true) closed_pack_at) ≡ Select
+    (record { lets = []; body = joined closed_from closed_tests closed_shown })
+    (codes "no" ∷ codes "tag" ∷ codes "text" ∷ codes "dst" ∷ [])
+unfolding understood everything
+closed_pack_at_is = refl
+
+pub closed_pack_at_plain : (b : Bool) → IsPlain (understood (archive_schema b) closed_pack_at)
+unfolding understood everything
+closed_pack_at_plain false = (refl, refl)
+closed_pack_at_plain true = (refl, refl)
+
+pub closed_pack_at_unlisted : reads_listing (archive_schema true) closed_pack_at ≡ false
+unfolding understood everything
+closed_pack_at_unlisted = refl
 
 -- ---- the lines of the first schema
 abbrev pub select_lines : List ℕ

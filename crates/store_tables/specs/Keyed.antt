@@ -4,7 +4,9 @@ use Rattle.std.specs.Prelude.{
   ◌≡◌,
   ◌==◌,
   ◌&&◌,
+  not,
   Bool,
+  true,
   false,
   List,
   [],
@@ -13,11 +15,13 @@ use Rattle.std.specs.Prelude.{
   map,
   filter,
   flat_map,
+  cond,
   bytes_eq,
   Option,
   Some,
   None,
 }
+use Rattle.std.specs.List.{list_any}
 use Rattle.stored_lines.specs.Line.{Label}
 use Rattle.receipts.specs.declared.answer.Receipt.{Receipt}
 use Rattle.store_tables.specs.Rows.{
@@ -32,6 +36,7 @@ use Rattle.store_tables.specs.Rows.{
   SlipSide,
   LinkRow,
   SoughtRow,
+  lines_of,
 }
 use Rattle.store_tables.specs.Reading.{
   lines_in_pack,
@@ -66,6 +71,23 @@ packs_at n rows = map read_pack (filter (λ (p : PackRow). p.no == n) rows.packs
 abbrev pub lines_within : Option (ℕ × List (ℕ × Label)) → List (ℕ × Label)
 lines_within None = []
 lines_within (Some p) = p.1
+
+-- whether a batch of a number is there and closed
+abbrev pub is_closed_at : ℕ → List BatchRow → Bool
+is_closed_at n = list_any (λ (b : BatchRow). (b.no == n) && not b.is_open)
+
+-- whether a number has a row that is of a closed batch
+abbrev pub is_of_closed : ℕ → Rows → Bool
+is_of_closed n rows = list_any (λ (r : RecordRow). (r.no == n) && is_closed_at r.batch rows.batches) rows.records
+
+-- the row with all lines of a number, if the number has a row that is of a closed batch
+abbrev pub closed_packs_at : ℕ → Rows → List PackRow
+closed_packs_at n rows = cond (is_of_closed n rows) (filter (λ (p : PackRow). p.no == n) rows.packs) []
+
+-- the lines of a number that has a row of a closed batch; nothing is found if it has no such row, or no lines
+abbrev pub AreClosedLines : ℕ → Rows → Option (ℕ × List (ℕ × Label)) → Type 0
+AreClosedLines n rows None = is_of_closed n rows ≡ true → lines_of n rows ≡ []
+AreClosedLines n rows (Some p) = (is_of_closed n rows ≡ true) × (p.1 ≡ lines_of n rows)
 
 abbrev pub slips_at : ℕ → Rows → List SlipRow
 slips_at n rows = filter (λ (s : SlipRow). s.no == n) rows.slips

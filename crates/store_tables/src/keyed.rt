@@ -1,12 +1,14 @@
 //! The rows of one number or of one token, each read by a statement that names it.
 
-ghost use Rattle.std.specs.Prelude.{◌≡◌, ◌≤◌, true, false, List, length, IfOk, IfErr};
+ghost use Rattle.std.specs.Prelude.{◌≡◌, ◌≤◌, true, false, List, length, map, IfOk, IfErr};
 ghost use Rattle.sqlite.specs.Held.{state};
 ghost use Rattle.store_tables.specs.Calls.{IsNoOther};
 ghost use Rattle.store_tables.specs.Conversion.{FailsUnless};
 ghost use Rattle.store_tables.specs.Keyed.{
+  AreClosedLines,
   IsOnly,
   batches_at,
+  closed_packs_at,
   records_at,
   receipts_at,
   slips_at,
@@ -14,6 +16,7 @@ ghost use Rattle.store_tables.specs.Keyed.{
   packs_at,
 };
 ghost use Rattle.store_tables.specs.Looking.{Looks};
+ghost use Rattle.store_tables.specs.Reading.{read_pack};
 ghost use Rattle.store_tables.specs.Rows.{lines_of};
 
 use crate::connection::is_second;
@@ -31,6 +34,9 @@ const BATCH_AT: &str = "SELECT no, is_open FROM batch WHERE no = ?1 ORDER BY no"
 const RECORD_AT: &str = "SELECT no, batch FROM record WHERE no = ?1 ORDER BY no";
 
 const PACK_AT: &str = "SELECT no, tag, text, dst FROM line WHERE no = ?1 ORDER BY no";
+
+const CLOSED_PACK_AT: &str =
+    "SELECT l.no, tag, text, dst FROM record r, batch b, line l WHERE r.no=?1 AND b.no=batch AND is_open=0 AND l.no=?1";
 
 const RECEIPTS_AT: &str =
     "SELECT token, digest, first, count FROM receipt WHERE token = ?1 ORDER BY id";
@@ -92,6 +98,24 @@ pub fn lines_at<S: Alter>(
     Ok(lines_within(alloc, pack))
 }
 
+/// The stored lines of a number whose row in `record` is of a closed batch, by one query: none if it has no such
+/// row, or no lines. 80 also if the tables are those of the first schema.
+pub fn closed_lines_at<S: Alter>(
+    alloc: Global,
+    conn: &mut Connection<S>,
+    number: u32,
+) -> Result<Option<PackRow>, RefusalKind>
+    requires autocommit { conn.old.in_transaction ≡ false }
+    ensures looks { Looks (λ rows found. AreClosedLines number rows found) (state S.Store conn.old)
+        (state S.Store conn.new) result }
+    ensures ended { conn.new.in_transaction ≡ false }
+{
+    if !is_second(conn) {
+        return Err(RefusalKind::Storage);
+    }
+    closed_pack_at(alloc, conn, number)
+}
+
 /// The lines of a number, where it has some.
 fn lines_within(alloc: Global, pack: Option<PackRow>) -> Vec<StoredLine>
     ensures { result.items ≡ lines_within pack }
@@ -115,6 +139,21 @@ fn pack_at<S: Alter>(
     ensures ended { conn.new.in_transaction ≡ false }
 {
     at_most_one(packs_at(alloc, conn, number)?)
+}
+
+/// All lines of a number that has a row of a closed batch, of tables that are not those of the first schema.
+fn closed_pack_at<S: Alter>(
+    alloc: Global,
+    conn: &mut Connection<S>,
+    number: u32,
+) -> Result<Option<PackRow>, RefusalKind>
+    requires autocommit { conn.old.in_transaction ≡ false }
+    requires second { IsNoOther true (state S.Store conn.old) }
+    ensures looks { Looks (λ rows found. IsOnly (map read_pack (closed_packs_at number rows)) found)
+        (state S.Store conn.old) (state S.Store conn.new) result }
+    ensures ended { conn.new.in_transaction ≡ false }
+{
+    at_most_one(closed_packs_at(alloc, conn, number)?)
 }
 
 /// What is kept under a token, in the order in which it was written.
@@ -183,6 +222,20 @@ fn packs_at<S: Alter>(
     ensures ended { conn.new.in_transaction ≡ false }
 {
     read_all(alloc, conn, PACK_AT, params![number])
+}
+
+fn closed_packs_at<S: Alter>(
+    alloc: Global,
+    conn: &mut Connection<S>,
+    number: u32,
+) -> Result<Vec<PackRow>, RefusalKind>
+    requires autocommit { conn.old.in_transaction ≡ false }
+    requires second { IsNoOther true (state S.Store conn.old) }
+    ensures looks { Looks (λ rows items. (items.items ≡ map read_pack (closed_packs_at number rows))
+        × (length items.items ≤ 1)) (state S.Store conn.old) (state S.Store conn.new) result }
+    ensures ended { conn.new.in_transaction ≡ false }
+{
+    read_all(alloc, conn, CLOSED_PACK_AT, params![number])
 }
 
 fn slips_at<S: Alter>(
