@@ -111,7 +111,8 @@ module _ {R W F D S : Type 0} {g : disk.Ghosts D} (reader : read.Ghosts R) (read
       is_run (asked.Init file society) did =
           let makes = did.0.1 in
           let finishes =
-          subst (λ (o : Outcome). Finishes faulter.contents fails.failed o status x.faults y.faults) makes.1 did.0.2 in (
+          subst (λ (o : Outcome). Finishes faulter.contents fails.failed o status x.faults y.faults) makes.1
+          did.0.2 in (
             (None, refl, idles society.now (made_or_not society.now makes.0 makes.2 makes.3)),
             λ done. begun society.now makes.0 makes.2 finishes done,
           )

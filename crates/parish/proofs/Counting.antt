@@ -1,5 +1,22 @@
 -- The faults of a file that were listed; and its records, where there are none.
-use Rattle.std.proofs.Common.{◌≡◌, ◌∙◌, ◌+◌, ◌++◌, ℕ, List, [], Some, None, arith, length, length-append, refl, subst, sym, take}
+use Rattle.std.proofs.Common.{
+  ◌≡◌,
+  ◌∙◌,
+  ◌+◌,
+  ◌++◌,
+  ℕ,
+  List,
+  [],
+  Some,
+  None,
+  arith,
+  length,
+  length-append,
+  refl,
+  subst,
+  sym,
+  take,
+}
 use Rattle.std.proofs.KnownBytes.{Appends-trans}
 use Rattle.std.proofs.Math.Seq.{take-append-add}
 use Rattle.std.specs.Io.KnownBytes.{Appends}

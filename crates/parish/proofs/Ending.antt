@@ -116,7 +116,8 @@ module _ {D S R W F : Type 0} {g : disk.Ghosts D} (reader : read.Ghosts R) (read
       → EndsOnFile reader reads writer writes faulter fails image t x y status shown left → says t ≡ false → status ≡ 0
       → y.faults ≡ x.faults
   file_quietly t shown (inl un) is zero =
-      done_quiet faulter.contents fails.failed (Err (placeless_text un.kind)) status x.faults x.faults y.faults un.finishes tt zero
+      done_quiet faulter.contents fails.failed (Err (placeless_text un.kind)) status x.faults x.faults y.faults
+      un.finishes tt zero
   file_quietly t shown (inr on) is zero =
       ends_quietly over_files reader reads writer writes faulter fails t (at on.taken x)
       (at on.new y) status shown on.ends is

@@ -120,8 +120,8 @@ pub record Listed (known old new : Option (List ℕ)) (f : Fault) : Type 0 where
   pub list : IfSome known (λ b. text ≡ listing (faults b))
   pub written : Appends old new text
 
--- why no records were counted: the bytes have a fault, and all faulty lines were listed; or nothing was read or a prefix
--- of the list was written; or a prefix of how many records they have
+-- why no records were counted: the bytes have a fault, and all faulty lines were listed; or nothing was read, or a
+-- prefix of the list was written; or a prefix of how many records they have
 abbrev pub UntoldAll : Option (List ℕ) → Option (List ℕ) → Option (List ℕ) → Type 0 → Type 0 → Fault → Type 0
 UntoldAll known old new ReaderFailed WriterFailed f = Listed known old new f
     ⊎ ((Unread old new ReaderFailed f ⊎ Begins known old new WriterFailed f) ⊎ Counting known old new WriterFailed f)

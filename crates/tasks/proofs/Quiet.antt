@@ -25,8 +25,8 @@ pub at_most_1 : {F : Type 0} (said : F → Option (List ℕ)) (failed : F → �
 at_most_1 said failed (Ok done) status old new f = omega (arith, f.0)
 at_most_1 said failed (Err t) status old new f = omega (arith, f.0)
 
-pub done_quiet : {F : Type 0} (said : F → Option (List ℕ)) (failed : F → ℕ) (o : Outcome) (status : ℕ) (first old new : F)
-    → Finishes said failed o status old new → OnOk o (old ≡ first) → status ≡ 0 → new ≡ first
+pub done_quiet : {F : Type 0} (said : F → Option (List ℕ)) (failed : F → ℕ) (o : Outcome) (status : ℕ)
+    (first old new : F) → Finishes said failed o status old new → OnOk o (old ≡ first) → status ≡ 0 → new ≡ first
 done_quiet said failed (Ok done) status first old new f quiet zero = f.1 ∙ quiet
 done_quiet said failed (Err t) status first old new f quiet zero = absurd (omega (arith, f.0, zero))
 
@@ -59,7 +59,8 @@ module _ {S R W F : Type 0} (g : Ghosts S) (reader : read.Ghosts R) (reads : dev
 
   pub ends_at_most_1 : (t : Task) (a b : Moment g R W F) (status : ℕ) (shown : Option Content)
       → Ends g reader reads writer writes faulter fails t a b status shown → status ≤ 1
-  ends_at_most_1 t a b status shown e = at_most_1 faulter.contents fails.failed e.outcome status e.between b.faults e.finishes
+  ends_at_most_1 t a b status shown e =
+      at_most_1 faulter.contents fails.failed e.outcome status e.between b.faults e.finishes
 
   pub ends_quietly : (t : Task) (a b : Moment g R W F) (status : ℕ) (shown : Option Content)
       → Ends g reader reads writer writes faulter fails t a b status shown → says t ≡ false → status ≡ 0

@@ -120,8 +120,8 @@ returns-in-Err-OutOfMemory-clause-others g c = λ none. (
     refl,
     inr (record {
       finishes = subst
-          (λ (t : RefusalText). Finishes g.F.Write.contents g.F.Device.failed (Err t) c.status_of.result c.args.faults.now
-          c.status_of.new.faults) c.placeless.ensures c.status_of.ensures;
+          (λ (t : RefusalText). Finishes g.F.Write.contents g.F.Device.failed (Err t) c.status_of.result
+          c.args.faults.now c.status_of.new.faults) c.placeless.ensures c.status_of.ensures;
       unread = refl;
       unwritten = refl;
       unopened = (tt, refl);
