@@ -342,7 +342,8 @@ module _ {R W F : Type 0} (reader : read.Ghosts R) (reads : device.Ghosts R) (wr
 
       apply_found : ArePerformed g → (r : Plain) → Applies over_files reader reads writer writes faulter fails Before
           After r
-          → Finishes faulter.contents (as_text r) status between y.faults → FoundIn task.Apply society c left
+          → Finishes faulter.contents fails.failed (as_text r) status between y.faults
+          → FoundIn task.Apply society c left
       apply_found law (Ok done) did finishes =
           rows_served law (row_bytes (reader.remaining x.input)) (ap row_bytes s.reads) did.applied.0
       apply_found law (Err kind) did finishes =
@@ -351,7 +352,8 @@ module _ {R W F : Type 0} (reader : read.Ghosts R) (reads : device.Ghosts R) (wr
 
       enter_found : ArePerformed g → (token : List ℕ) (source : ℕ) (o : Outcome)
           → EntersBatch over_files reader reads writer writes faulter fails Before After token source o
-          → Finishes faulter.contents o status between y.faults → FoundIn (task.Entries token source) society c left
+          → Finishes faulter.contents fails.failed o status between y.faults
+          → FoundIn (task.Entries token source) society c left
       enter_found law token source (Ok done) did finishes =
           let all = did.entered in
           batch_told law token source all.0 all.1 (tells (task.Entries token source) (made_text all.0) all.2)
@@ -368,7 +370,8 @@ module _ {R W F : Type 0} (reader : read.Ghosts R) (reads : device.Ghosts R) (wr
 
       import_found : ArePerformed g → (token : List ℕ) (progress : Bool) (o : Outcome)
           → ImportsFile over_files reader reads writer writes faulter fails Before After token o
-          → Finishes faulter.contents o status between y.faults → FoundIn (task.Import token progress) society c left
+          → Finishes faulter.contents fails.failed o status between y.faults
+          → FoundIn (task.Import token progress) society c left
       import_found law token progress (Ok done) did finishes =
           let all = did.imported in
           let same : all.1 ≡ report all.2.0.forest = all.2.1 in
@@ -396,7 +399,8 @@ module _ {R W F : Type 0} (reader : read.Ghosts R) (reads : device.Ghosts R) (wr
 
       export_found : FileComesBack → (r : Plain)
           → Exports over_files reader reads writer writes faulter fails Before After r
-          → Finishes faulter.contents (as_text r) status between y.faults → FoundIn task.Export society c left
+          → Finishes faulter.contents fails.failed (as_text r) status between y.faults
+          → FoundIn task.Export society c left
       export_found back (Ok done) did finishes =
           let was = only_read (λ name k. IsWhole Got Has (export_text name k)) did.written in
           keeps_none task.Export society c left (refl, export_back back was.0 was.1) (inl was.1)
@@ -459,17 +463,20 @@ module _ {R W F : Type 0} (reader : read.Ghosts R) (reads : device.Ghosts R) (wr
       -- ---- each task
       pub found_by : ArePerformed g → FileComesBack → (t : Task) (o : Outcome) (shown : Option Content)
           → Does over_files reader reads writer writes faulter fails Before After t o shown
-          → Finishes faulter.contents o status between y.faults → FoundIn t society c left
+          → Finishes faulter.contents fails.failed o status between y.faults
+          → FoundIn t society c left
       found_by law back task.Apply o shown did finishes =
           apply_found law did.0.0 did.0.2
-          (subst (λ (same : Outcome). Finishes faulter.contents same status between y.faults) did.0.1 finishes)
+          (subst (λ (same : Outcome). Finishes faulter.contents fails.failed same status between y.faults) did.0.1
+          finishes)
       found_by law back (task.Entries token source) o shown did finishes =
           enter_found law token source o did.0 finishes
       found_by law back (task.Import token progress) o shown did finishes =
           import_found law token progress o did.0 finishes
       found_by law back task.Export o shown did finishes =
           export_found back did.0.0 did.0.2
-          (subst (λ (same : Outcome). Finishes faulter.contents same status between y.faults) did.0.1 finishes)
+          (subst (λ (same : Outcome). Finishes faulter.contents fails.failed same status between y.faults) did.0.1
+          finishes)
       found_by law back (task.ExportPublic today) o shown did finishes =
           keeps_none (task.ExportPublic today) society c left refl (inl (published today did.0.0 did.0.2))
       found_by law back (task.Sheet sheet today) o shown did finishes =

@@ -1,5 +1,5 @@
 -- A run without a task on an archive leaves each that the two held; the first run makes one.
-use Rattle.std.proofs.Common.{◌≡◌, ◌⊎◌, ◌∷◌, [], ℕ, List, ap, inl, inr, refl, subst}
+use Rattle.std.proofs.Common.{◌≡◌, ◌∷◌, [], ℕ, List, ap, inl, inr, refl, subst}
 use Rattle.std.specs.Prelude.{Bool, Option}
 use Rattle.std.proofs.Math.Logic.{∥∥₁_map}
 use Rattle.sqlite.specs.Files.{HoldsDatabase, file_state}
@@ -12,9 +12,8 @@ use Rattle.sqlite_disk.specs.declared.Disk as disk
 use Rattle.sqlite_store.specs.declared.store.FileStore.{FileStore}
 use Rattle.sqlite_wal.specs.Recovery.{Image}
 use Rattle.archive_core.specs.Machine.{Done}
-use Rattle.archive_files.specs.Made.{IsMadeIn, IsUnmadeIn, Unmade}
+use Rattle.archive_files.specs.Made.{IsMadeIn, IsUnmadeIn}
 use Rattle.archive_state.specs.Content.{Content, nothing}
-use Rattle.archive_files.specs.DatabaseOpening.{IsUntouched}
 use Rattle.archive_files.specs.declared.left.Left.{Left as LeftOf}
 use Rattle.archive_files.specs.declared.left.Left.TheVariants.{Untouched, Unopened, Open}
 use Rattle.record_text.specs.declared.refusal.RefusalKind.{RefusalKind}

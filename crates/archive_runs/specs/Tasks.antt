@@ -18,7 +18,7 @@ use Rattle.store.specs.Archives.{HasArchive, LeavesArchive}
 use Rattle.store.specs.Histories.{MayBeFound, in_doubt}
 use Rattle.store.specs.declared.archive.Archive.{Archive}
 use Rattle.tasks.specs.Ends.{Ends}
-use Rattle.tasks.specs.Moments.{Moment, Streams, at}
+use Rattle.tasks.specs.Moments.{Streams, at}
 use Rattle.tasks.specs.Status.{Finishes, placeless_text}
 use Rattle.tasks.specs.declared.task.Task.{Task}
 
@@ -39,7 +39,7 @@ module _ {D S R W F : Type 0} {g : disk.Ghosts D} (reader : read.Ghosts R) (read
     pub unread : y.input ≡ x.input
     pub unwritten : y.output ≡ x.output
     pub unshown : shown ≡ None
-    pub finishes : Finishes faulter.contents (Err (placeless_text kind)) status x.faults y.faults
+    pub finishes : Finishes faulter.contents fails.failed (Err (placeless_text kind)) status x.faults y.faults
 
   -- the archive that the file held was taken up, the task was performed on it, and its connection is handed back
   pub record EndsOpened (image : Image) (task : Task) (x y : Streams R W F) (status : ℕ) (shown : Option Content)

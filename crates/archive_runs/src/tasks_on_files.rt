@@ -1,6 +1,6 @@
 //! A task, performed on the archive in a file.
 
-ghost use Rattle.std.specs.Prelude.{◌≡◌, Err};
+ghost use Rattle.std.specs.Prelude.{Err};
 ghost use Rattle.sqlite_wal.specs.Files.{image_at};
 ghost use Rattle.archive_runs.specs.Tasks.{EndsOnFile};
 
@@ -9,7 +9,7 @@ use devices::Device;
 use sheets::Library;
 use std::io::{Read, Write};
 use std::rt::HostRuntime;
-use tasks::{Task, perform_task, placeless, status_of};
+use tasks::{FaultStream, Task, perform_task, placeless, status_of};
 
 /// Opens the archive in a file, performs a task on it, and gives the exit status; of `Task::Library` also what may be
 /// shown; and what is left of the file.
@@ -17,7 +17,7 @@ use tasks::{Task, perform_task, placeless, status_of};
 /// 82: there is no file, or it has no archive. 83: a later program made it. 80: the file cannot be opened or is no
 /// database, or the database failed. 1: memory was refused. At these nothing is read, and nothing written but the line
 /// of the refusal. Else it ends as `tasks::perform_task`.
-pub fn perform_on_file<S: Openable, R: Read + Device, W: Write + Device, F: Write + Device>(
+pub fn perform_on_file<S: Openable, R: Read + Device, W: Write + Device, F: FaultStream>(
     rt: &HostRuntime,
     file: &str,
     start: S,

@@ -80,7 +80,7 @@ module _ {R W F D S : Type 0} {g : disk.Ghosts D} (reader : read.Ghosts R) (read
           → Finished reader reads writer writes faulter fails image status x y left room
           (IsNoToken reader reads writer writes faulter fails image status x y left room word) → status ≡ 1
       no_token word done =
-          (subst (λ (o : Outcome). Finishes faulter.contents o status x.faults y.faults) done.1.1 done.2).0
+          (subst (λ (o : Outcome). Finishes faulter.contents fails.failed o status x.faults y.faults) done.1.1 done.2).0
 
       under : (word : List ℕ) (t : Task)
           → DoesUnder reader reads writer writes faulter fails image status x y left room word t
@@ -95,7 +95,7 @@ module _ {R W F D S : Type 0} {g : disk.Ghosts D} (reader : read.Ghosts R) (read
       made_or_not society (Err kind) made un = inr (inr (kind, un))
 
       begun : (society : List ℕ) (r : Plain) → OnOk r (IsMadeIn image society left)
-          → Finishes faulter.contents (as_text r) status x.faults y.faults → ended ≡ Some 0
+          → Finishes faulter.contents fails.failed (as_text r) status x.faults y.faults → ended ≡ Some 0
           → ∥ Stands society nothing after ∥₁
       begun society (Ok _) made finishes done = begins society made
       begun society (Err kind) made finishes done =
@@ -106,11 +106,13 @@ module _ {R W F D S : Type 0} {g : disk.Ghosts D} (reader : read.Ghosts R) (read
           → IsRun image bytes seen ended after a
       is_run asked.Norm did = ((None, refl, idles [] (inl did.1.0)), tt)
       is_run asked.Check did = ((None, refl, idles [] (inl did.1.0)), tt)
+      is_run asked.CheckAll did = ((None, refl, idles [] (inl did.1.0)), tt)
       is_run (asked.Convert from) did = ((None, refl, idles [] (inl did.1.0)), tt)
       is_run (asked.Init file society) did =
           let makes = did.0.1 in
           let finishes =
-          subst (λ (o : Outcome). Finishes faulter.contents o status x.faults y.faults) makes.1 did.0.2 in (
+          subst (λ (o : Outcome). Finishes faulter.contents fails.failed o status x.faults y.faults) makes.1
+          did.0.2 in (
             (None, refl, idles society.now (made_or_not society.now makes.0 makes.2 makes.3)),
             λ done. begun society.now makes.0 makes.2 finishes done,
           )

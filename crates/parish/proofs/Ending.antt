@@ -11,13 +11,12 @@ use Rattle.std.proofs.Common.{
   inl,
   inr,
   refl,
-  subst,
   ap,
   Ok,
   Err,
   true≢false,
 }
-use Rattle.std.specs.Prelude.{Option, Result, OnErr, OnOk, is_ok, if◌then◌else◌}
+use Rattle.std.specs.Prelude.{Option, Result, OnErr, OnOk}
 use Rattle.std.specs.Io.KnownBytes.{Appends}
 use Rattle.std.specs.declared.io.Read as read
 use Rattle.std.specs.declared.io.Write as write
@@ -31,12 +30,11 @@ use Rattle.command_line.specs.declared.tasks.Asked.TheVariants as asked
 use Rattle.archive_files.specs.declared.left.Left.{Left}
 use Rattle.devices.specs.Devices.{AppendsBeginning}
 use Rattle.devices.specs.declared.device.Device as device
-use Rattle.parish.specs.Doing.{Does, DoesTask, DoesUnder, Finished, tells}
+use Rattle.parish.specs.Doing.{Does, DoesUnder, Finished, tells}
 use Rattle.parish.specs.Lists.{find_task, list_task}
 use Rattle.parish.specs.Rooms.{VisitsEnd}
 use Rattle.parish.specs.declared.visits.Visits.{Visits}
 use Rattle.reading_room.specs.Listening.{listening_line}
-use Rattle.record_text.specs.declared.refusal.RefusalKind.{RefusalKind}
 use Rattle.record_text.specs.declared.refusal.RefusalKind.TheVariants.{WriteFailed}
 use Rattle.tasks.proofs.Quiet.{at_most_1, done_quiet, ends_at_most_1, ends_quietly, says}
 use Rattle.tasks.specs.Moments.{Streams, at}
@@ -59,12 +57,12 @@ module _ {D S R W F : Type 0} {g : disk.Ghosts D} (reader : read.Ghosts R) (read
 
   finished_at_most_1 : (P : Outcome → Type 0)
       → Finished reader reads writer writes faulter fails image status x y left room P → status ≤ 1
-  finished_at_most_1 P did = at_most_1 faulter.contents did.0 status x.faults y.faults did.2
+  finished_at_most_1 P did = at_most_1 faulter.contents fails.failed did.0 status x.faults y.faults did.2
 
   file_at_most_1 : (t : Task) (shown : Option Content)
       → EndsOnFile reader reads writer writes faulter fails image t x y status shown left → status ≤ 1
   file_at_most_1 t shown (inl un) =
-      at_most_1 faulter.contents (Err (placeless_text un.kind)) status x.faults y.faults un.finishes
+      at_most_1 faulter.contents fails.failed (Err (placeless_text un.kind)) status x.faults y.faults un.finishes
   file_at_most_1 t shown (inr on) =
       ends_at_most_1 over_files reader reads writer writes faulter fails t (at on.taken x)
       (at on.new y) status shown on.ends
@@ -78,6 +76,7 @@ module _ {D S R W F : Type 0} {g : disk.Ghosts D} (reader : read.Ghosts R) (read
       → status ≤ 1
   does_at_most_1 asked.Norm did = finished_at_most_1 _ did.0
   does_at_most_1 asked.Check did = finished_at_most_1 _ did.0
+  does_at_most_1 asked.CheckAll did = finished_at_most_1 _ did.0
   does_at_most_1 (asked.Convert from) did = converted_at_most_1 _ _ did.0
   does_at_most_1 (asked.Init file society) did = finished_at_most_1 _ did.0
   does_at_most_1 (asked.Apply file) did =
@@ -111,13 +110,14 @@ module _ {D S R W F : Type 0} {g : disk.Ghosts D} (reader : read.Ghosts R) (read
       → Finished reader reads writer writes faulter fails image status x y left room P → status ≡ 0
       → y.faults ≡ x.faults
   finished_quietly P did zero =
-      done_quiet faulter.contents did.0 status x.faults x.faults y.faults did.2 (on_ok did.0 refl) zero
+      done_quiet faulter.contents fails.failed did.0 status x.faults x.faults y.faults did.2 (on_ok did.0 refl) zero
 
   file_quietly : (t : Task) (shown : Option Content)
       → EndsOnFile reader reads writer writes faulter fails image t x y status shown left → says t ≡ false → status ≡ 0
       → y.faults ≡ x.faults
   file_quietly t shown (inl un) is zero =
-      done_quiet faulter.contents (Err (placeless_text un.kind)) status x.faults x.faults y.faults un.finishes tt zero
+      done_quiet faulter.contents fails.failed (Err (placeless_text un.kind)) status x.faults x.faults y.faults
+      un.finishes tt zero
   file_quietly t shown (inr on) is zero =
       ends_quietly over_files reader reads writer writes faulter fails t (at on.taken x)
       (at on.new y) status shown on.ends is
@@ -134,6 +134,7 @@ module _ {D S R W F : Type 0} {g : disk.Ghosts D} (reader : read.Ghosts R) (read
       → tells a ≡ false → status ≡ 0 → y.faults ≡ x.faults
   does_quietly asked.Norm did is zero = finished_quietly _ did.0 zero
   does_quietly asked.Check did is zero = finished_quietly _ did.0 zero
+  does_quietly asked.CheckAll did is zero = finished_quietly _ did.0 zero
   does_quietly (asked.Convert from) did is zero = absurd (true≢false is)
   does_quietly (asked.Init file society) did is zero = finished_quietly _ did.0 zero
   does_quietly (asked.Apply file) did is zero = absurd (true≢false is)
@@ -163,15 +164,15 @@ module _ {D S R W F : Type 0} {g : disk.Ghosts D} (reader : read.Ghosts R) (read
 
 -- ---- a room, once the file is closed
 pub visits_end : (r : Plain) (port status : ℕ) (old new : Option (List ℕ)) (WriterFailed : Type 0) {F : Type 0}
-    (said : F → Option (List ℕ)) (quiet loud : F) → Finishes said (as_text r) status quiet loud
+    (said : F → Option (List ℕ)) (failed : F → ℕ) (quiet loud : F) → Finishes said failed (as_text r) status quiet loud
     → OnOk r (Appends old new (listening_line port)) → OnErr r (AppendsBeginning old new (listening_line port))
     → (r ≡ Err WriteFailed → WriterFailed) → VisitsEnd port status old new WriterFailed
-visits_end (Ok done) port status old new WriterFailed said quiet loud f listens begun blamed = record {
+visits_end (Ok done) port status old new WriterFailed said failed quiet loud f listens begun blamed = record {
   bound = omega (arith, f.0);
   done = λ zero. listens;
   refused = λ one. absurd (omega (arith, f.0, one));
 }
-visits_end (Err why) port status old new WriterFailed said quiet loud f listens begun blamed = record {
+visits_end (Err why) port status old new WriterFailed said failed quiet loud f listens begun blamed = record {
   bound = omega (arith, f.0);
   done = λ zero. absurd (omega (arith, f.0, zero));
   refused = λ one. (why, begun, λ is. blamed (ap Err is));

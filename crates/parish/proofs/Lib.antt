@@ -1,4 +1,5 @@
 mod Carrying
+mod Counting
 mod Ending
 mod Same
 mod Untaken

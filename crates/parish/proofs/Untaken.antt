@@ -25,6 +25,7 @@ module _ {R W F D S : Type 0} {g : disk.Ghosts D} (reader : read.Ghosts R) (read
       → RefusesWords reader reads writer writes faulter fails image status x y left room words
   untaken asked.Norm is did help = absurd (none is.0)
   untaken asked.Check is did help = absurd (none is.0)
+  untaken asked.CheckAll is did help = absurd (none is.0)
   untaken (asked.Convert from) is did help = absurd (none is.0)
   untaken (asked.Init file society) is did help = absurd (none is.0)
   untaken (asked.Apply file) is did help = absurd (none is.0)

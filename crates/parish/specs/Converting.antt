@@ -6,13 +6,14 @@ use Rattle.command_line.specs.declared.tasks.SetName.{SetName}
 use Rattle.command_line.specs.declared.tasks.SetName.TheVariants as named
 use Rattle.conversion_reports.specs.Hints.{hint_of}
 use Rattle.conversion_reports.specs.Streams.{ConvertedAloud, NotConvertedAloud}
-use Rattle.devices.specs.Devices.{AppendsBeginning}
+use Rattle.devices.specs.Devices.{Rose}
 use Rattle.file_conversion.specs.declared.fault.ConversionError.{ConversionError}
 use Rattle.file_conversion.specs.declared.fault.ConversionError.TheVariants as error
 use Rattle.record_text.specs.declared.refusal.RefusalKind.TheVariants as kind
 use Rattle.record_text.specs.declared.refusal.RefusalText.{RefusalText}
 use Rattle.record_text.specs.declared.refusal.Unit.TheVariants as unit
 use Rattle.std.specs.Prelude.{IfSome}
+use Rattle.tasks.specs.Faults.{IsReported}
 use Rattle.tasks.specs.Status.{placeless_text, refusal_line}
 
 abbrev pub set_of : SetName → CharacterSet
@@ -40,26 +41,28 @@ refusal_of (error.UnknownSet line) = record {
   unit = unit.Line;
 }
 
--- the line of the refusal is printed and then the hint; of each a beginning where standard error fails
-pub record Refuses (e : ConversionError) (hint : List ℕ) (old new : Option (List ℕ)) : Type 0 where
-  pub between : Option (List ℕ)
-  pub line : AppendsBeginning old between (refusal_line (refusal_of e))
-  pub hints : AppendsBeginning between new hint
+-- `said` is what the faults have got, `failed` how often they failed
+module _ {F : Type 0} (said : F → Option (List ℕ)) (failed : F → ℕ) where
+  -- the line of the refusal is printed and then the hint, each whole but where the faults failed, by their count
+  pub record Refuses (e : ConversionError) (hint : List ℕ) (old new : F) : Type 0 where
+    pub between : F
+    pub line : IsReported said failed old between (refusal_line (refusal_of e))
+    pub hints : IsReported said failed between new hint
 
--- it was not done: what was written and reported, and why; then the refusal, with the hint of the bytes
-pub record Unconverts (asked : Option CharacterSet) (known old new faults_old faults_new : Option (List ℕ))
-    (ReadFailed WriteFailed : Type 0) : Type 0 where
-  pub why : ConversionError
-  pub hint : List ℕ
-  pub reported : Option (List ℕ)
-  pub left : NotConvertedAloud asked known old new faults_old reported ReadFailed WriteFailed why
-  pub hint_is : IfSome known (λ bytes. hint ≡ hint_of why bytes)
-  pub refuses : Refuses why hint reported faults_new
+  -- it was not done: what was written and reported, and why; then the refusal, with the hint of the bytes
+  pub record Unconverts (asked : Option CharacterSet) (known old new : Option (List ℕ)) (faults_old faults_new : F)
+      (ReadFailed WriteFailed : Type 0) : Type 0 where
+    pub why : ConversionError
+    pub hint : List ℕ
+    pub reported : F
+    pub left : NotConvertedAloud asked known old new (said faults_old) (said reported) ReadFailed WriteFailed why
+    pub hint_is : IfSome known (λ bytes. hint ≡ hint_of why bytes)
+    pub refuses : Refuses why hint reported faults_new
 
--- it was done, with 0, or was not, with 1
-abbrev pub Converts : Option CharacterSet → Option (List ℕ) → Option (List ℕ) → Option (List ℕ) → Option (List ℕ)
-    → Option (List ℕ) → Type 0 → Type 0 → Type 0 → ℕ → Type 0
-Converts asked known old new faults_old faults_new ReadFailed WriteFailed FaultsFailed status =
-    ((status ≡ 0) × ((read_as : CharacterSet)
-    × ConvertedAloud asked read_as known old new faults_old faults_new FaultsFailed))
-    ⊎ ((status ≡ 1) × Unconverts asked known old new faults_old faults_new ReadFailed WriteFailed)
+  -- it was done, with 0, or was not, with 1
+  abbrev pub Converts : Option CharacterSet → Option (List ℕ) → Option (List ℕ) → Option (List ℕ) → F → F → Type 0
+      → Type 0 → ℕ → Type 0
+  Converts asked known old new faults_old faults_new ReadFailed WriteFailed status =
+      ((status ≡ 0) × ((read_as : CharacterSet) × ConvertedAloud asked read_as known old new (said faults_old)
+      (said faults_new) (Rose (failed faults_old) (failed faults_new))))
+      ⊎ ((status ≡ 1) × Unconverts asked known old new faults_old faults_new ReadFailed WriteFailed)

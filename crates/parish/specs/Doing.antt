@@ -30,6 +30,7 @@ use Rattle.command_line.specs.declared.tasks.Asked.TheVariants.{
   Apply,
   Audit,
   Check,
+  CheckAll,
   Convert,
   Days,
   Entries,
@@ -50,7 +51,7 @@ use Rattle.archive_files.specs.declared.left.Left.{Left}
 use Rattle.devices.specs.Devices.{Rose}
 use Rattle.devices.specs.declared.device.Device as device
 use Rattle.parish.specs.Converting.{Converts, set_of}
-use Rattle.parish.specs.Ends.{Checks, Normalises, Shows}
+use Rattle.parish.specs.Ends.{Checks, ChecksAll, Normalises, Shows}
 use Rattle.parish.specs.Lists.{find_task, list_task}
 use Rattle.parish.specs.Rooms.{IsRoomOf, IsSheetOf}
 use Rattle.parish.specs.declared.visits.Visits.{Visits}
@@ -99,7 +100,7 @@ module _ {D S R W F : Type 0} {g : disk.Ghosts D} (reader : read.Ghosts R) (read
 
   -- P of what was done, whose status this is, with the line of a refusal on the faults
   abbrev pub Finished : (Outcome → Type 0) → Type 0
-  Finished P = (outcome : Outcome) × P outcome × Finishes faulter.contents outcome status x.faults y.faults
+  Finished P = (outcome : Outcome) × P outcome × Finishes faulter.contents fails.failed outcome status x.faults y.faults
 
   -- ---- files of archives
   -- a task was performed on the archive in a file, and there is no room
@@ -128,9 +129,11 @@ module _ {D S R W F : Type 0} {g : disk.Ghosts D} (reader : read.Ghosts R) (read
       HasReadFailed HasWriteFailed) × OpensNothing
   Does Check = Finished (Checks (reader.remaining x.input) (writer.contents x.output) (writer.contents y.output)
       HasReadFailed HasWriteFailed) × OpensNothing
-  Does (Convert from) = Converts (option_map set_of from) (reader.remaining x.input) (writer.contents x.output)
-      (writer.contents y.output) (faulter.contents x.faults) (faulter.contents y.faults) HasReadFailed HasWriteFailed
-      (Rose (fails.failed x.faults) (fails.failed y.faults)) status × OpensNothing
+  Does CheckAll = Finished (ChecksAll (reader.remaining x.input) (writer.contents x.output) (writer.contents y.output)
+      HasReadFailed HasWriteFailed) × OpensNothing
+  Does (Convert from) = Converts faulter.contents fails.failed (option_map set_of from) (reader.remaining x.input)
+      (writer.contents x.output) (writer.contents y.output) x.faults y.faults HasReadFailed HasWriteFailed status
+      × OpensNothing
   Does (Init file society) = Finished (Makes image left society.now) × IsUnread × IsUnwritten × (room ≡ None)
   Does (Apply file) = DoesTask task.Apply
   Does (Entries file source token) = DoesUnder token.now (task.Entries token.now source)
@@ -151,7 +154,7 @@ module _ {D S R W F : Type 0} {g : disk.Ghosts D} (reader : read.Ghosts R) (read
 
   -- no memory was found to read the words, and nothing is done
   pub record IsWanting : Type 0 where
-    pub finishes : Finishes faulter.contents (Err (placeless_text OutOfMemory)) status x.faults y.faults
+    pub finishes : Finishes faulter.contents fails.failed (Err (placeless_text OutOfMemory)) status x.faults y.faults
     pub unread : IsUnread
     pub unwritten : IsUnwritten
     pub unopened : OpensNothing

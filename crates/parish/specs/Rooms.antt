@@ -27,7 +27,7 @@ IsRoomOf port count (Some shown) (Some visits) = (visits.port ≡ port) × (visi
 IsRoomOf port count None (Some visits) = ⊥
 IsRoomOf port count (Some shown) None = ⊥
 
--- 0 where it was said that the room listens; 1 where a beginning of that was said at the least, for a reason; the
+-- 0 where it was said that the room listens; 1 where a prefix of that was said at the least, for a reason; the
 -- writer is blamed only where it failed in this call, by its count
 pub record VisitsEnd (port status : ℕ) (old new : Option (List ℕ)) (WriterFailed : Type 0) : Type 0 where
   pub bound : status ≤ 1

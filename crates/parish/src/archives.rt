@@ -20,13 +20,13 @@ use record_text::RefusalKind;
 use std::alloc::Global;
 use std::io::{Read, Write};
 use std::rt::HostRuntime;
-use tasks::{Task, placeless, plain, status_of};
+use tasks::{FaultStream, Task, placeless, plain, status_of};
 
 /// What a command ends with: the exit status, what is left of the archive's file, and the room that is to be served.
 pub(crate) type Ended<S> = (u8, LeftFile<S>, Option<Visits>);
 
 /// `init`: makes the archive of a society in a file.
-pub(crate) fn make<S: Openable, F: Write + Device>(
+pub(crate) fn make<S: Openable, F: FaultStream>(
     rt: &HostRuntime,
     file: &str,
     society: &str,
@@ -34,14 +34,14 @@ pub(crate) fn make<S: Openable, F: Write + Device>(
     faults: &mut F,
 ) -> (u8, LeftFile<S>)
     ensures { (outcome : Outcome) × Makes (image_at S.Start) result.1 society.now outcome
-        × Finishes F.contents outcome result.0 faults.old faults.new }
+        × Finishes F.contents F.failed outcome result.0 faults.old faults.new }
 {
     let (outcome, left) = init(rt, file, society, start);
     (status_of(plain(outcome), faults), left)
 }
 
 /// Performs a task on the archive in a file.
-pub(crate) fn do_task<S: Openable, R: Read + Device, W: Write + Device, F: Write + Device>(
+pub(crate) fn do_task<S: Openable, R: Read + Device, W: Write + Device, F: FaultStream>(
     rt: &HostRuntime,
     file: &str,
     task: Task,
@@ -59,7 +59,7 @@ pub(crate) fn do_task<S: Openable, R: Read + Device, W: Write + Device, F: Write
 }
 
 /// `entries`: enters the rows of the input as a batch, under a token. 93: the word is no token; no file is opened.
-pub(crate) fn enter<S: Openable, R: Read + Device, W: Write + Device, F: Write + Device>(
+pub(crate) fn enter<S: Openable, R: Read + Device, W: Write + Device, F: FaultStream>(
     rt: &HostRuntime,
     file: &str,
     token: &str,
@@ -93,7 +93,7 @@ pub(crate) fn enter<S: Openable, R: Read + Device, W: Write + Device, F: Write +
 }
 
 /// `import`: takes in the file of the input, under a token. 93: the word is no token; no file is opened.
-pub(crate) fn take_in<S: Openable, R: Read + Device, W: Write + Device, F: Write + Device>(
+pub(crate) fn take_in<S: Openable, R: Read + Device, W: Write + Device, F: FaultStream>(
     rt: &HostRuntime,
     file: &str,
     token: &str,
@@ -133,7 +133,7 @@ fn token_given(alloc: Global, word: &str) -> Result<Token, RefusalKind>
 {
     match Token::try_new(String::from_str(alloc, word)?) {
         Some(token) => {
-            // This tells the proof that it is a token.
+            // From this the proof knows that it is a token.
             let _word = token.as_str();
             Ok(token)
         }
@@ -142,7 +142,7 @@ fn token_given(alloc: Global, word: &str) -> Result<Token, RefusalKind>
 }
 
 /// `serve`: the room that is to be served, with what may be shown of the archive in a file on a day.
-pub(crate) fn open_room<S: Openable, R: Read + Device, W: Write + Device, F: Write + Device>(
+pub(crate) fn open_room<S: Openable, R: Read + Device, W: Write + Device, F: FaultStream>(
     rt: &HostRuntime,
     file: &str,
     port: u16,

@@ -9,7 +9,6 @@ ghost use Rattle.std.specs.Prelude.{
   List,
   Option,
   codes,
-  false,
   map,
   string_bytes,
   None,
@@ -20,7 +19,7 @@ ghost use Rattle.sqlite_wal.specs.Recovery.{Image};
 ghost use Rattle.command_line.specs.Asking.{HasWords, IsTaken};
 ghost use Rattle.archive_files.specs.DatabaseOpening.{IsUntouched};
 ghost use Rattle.devices.specs.Devices.{Rose};
-ghost use Rattle.parish.specs.Doing.{Does, DoesWords, IsWanting, RefusesWords, tells};
+ghost use Rattle.parish.specs.Doing.{Does, DoesWords, IsWanting, RefusesWords};
 ghost use Rattle.parish.specs.Ends.{AreOf, AreOfToldImport, Shows};
 ghost use Rattle.parish.specs.Runs.{IsRunOf};
 ghost use Rattle.archive_runs.specs.Leaving.{FindsAfter};
@@ -28,7 +27,7 @@ ghost use Rattle.archive_runs.specs.Seeing.{IsSeen, IsSeenAs};
 
 use crate::archives::{Ended, do_task, enter, make, open_room, take_in};
 use crate::converting::convert;
-use crate::files::{check, norm};
+use crate::files::{check, check_all, norm};
 use crate::laws::what_is_asked_for_loses_nothing;
 use crate::lists::{find_task, list_task};
 use crate::visits::sheet_of;
@@ -41,7 +40,7 @@ use sqlite::FileFrom;
 use std::io;
 use std::io::{ErrorKind, Read, Write};
 use std::rt::HostRuntime;
-use tasks::{Task, placeless, status_of};
+use tasks::{FaultStream, Task, placeless, status_of};
 
 /// The words were refused.
 const WORDS_REFUSED: u8 = 2;
@@ -56,7 +55,7 @@ const WORDS_REFUSED: u8 = 2;
 /// is not taken is answered on `output` only where it asks for help or for the version. Words that are taken are never
 /// refused: what they name is done, with 0, or 1 and a reason. Of each archive that the file held nothing is lost,
 /// however much was seen of the output and of the end, as soon as the file is closed, or given up in a stop.
-pub fn command<S: Openable, R: Read + Device, W: Write + Device, F: Write + Device>(
+pub fn command<S: Openable, R: Read + Device, W: Write + Device, F: FaultStream>(
     rt: &HostRuntime,
     words: &[String],
     start: S,
@@ -103,7 +102,7 @@ pub fn command<S: Openable, R: Read + Device, W: Write + Device, F: Write + Devi
 
 /// Does what was asked for, and gives the exit status, with what is left of the archive's file, and the room that is to
 /// be served.
-fn work<S: Openable, R: Read + Device, W: Write + Device, F: Write + Device>(
+fn work<S: Openable, R: Read + Device, W: Write + Device, F: FaultStream>(
     rt: &HostRuntime,
     asked: Asked<'_>,
     start: S,
@@ -123,6 +122,10 @@ fn work<S: Openable, R: Read + Device, W: Write + Device, F: Write + Device>(
         }
         Asked::Check => {
             let outcome = check(rt.alloc(), input, output);
+            (status_of(outcome, faults), Left::Untouched(start), None)
+        }
+        Asked::CheckAll => {
+            let outcome = check_all(rt.alloc(), input, output);
             (status_of(outcome, faults), Left::Untouched(start), None)
         }
         Asked::Convert { from } => {
@@ -207,7 +210,7 @@ fn work<S: Openable, R: Read + Device, W: Write + Device, F: Write + Device>(
     }
 }
 
-/// Prints a text that was asked for. 95: the output failed. 1: memory was refused. Then a beginning of it is printed.
+/// Prints a text that was asked for. 95: the output failed. 1: memory was refused. Then a prefix of it is printed.
 fn show<W: Write + Device>(text: &str, output: &mut W) -> Result<(), RefusalText>
     ensures { Shows text.now (W.contents output.old) (W.contents output.new)
         (Rose (W.failed output.old) (W.failed output.new)) result }
@@ -228,8 +231,8 @@ fn refuse_words<F: Write + Device>(faults: &mut F, text: &str) -> u8
 }
 
 /// The exit status of a command line that could not be read, because of a word that is not UTF-8
-/// or want of memory.
-pub fn refuse_command_line<F: Write + Device>(error: &io::Error, faults: &mut F) -> u8
+/// or out of memory.
+pub fn refuse_command_line<F: FaultStream>(error: &io::Error, faults: &mut F) -> u8
     ensures memory { error_kind error.now ≡ ErrorKind.OutOfMemory → result ≡ 1 }
     ensures words { error_kind error.now ≢ ErrorKind.OutOfMemory → result ≡ 2 }
 {

@@ -1,35 +1,34 @@
 //! `convert`: a GEDCOM file that is the input, in UTF-8.
 
 ghost use Rattle.std.specs.Prelude.{◌≡◌, option_map};
-ghost use Rattle.devices.specs.Devices.{AppendsBeginning, Rose};
+ghost use Rattle.devices.specs.Devices.{Rose};
 ghost use Rattle.parish.specs.Converting as converting;
 
 use character_sets::CharacterSet;
 use command_line::SetName;
 use conversion_reports::{Unconverted, convert_aloud};
-use devices::{Device, write_bytes};
+use devices::Device;
 use file_conversion::ConversionError;
 use record_text::{Refusal, RefusalKind, RefusalText, Unit};
 use std::alloc::Global;
 use std::io::{Read, Write};
-use tasks::{placeless, status_of};
+use tasks::{FaultStream, placeless, status_of};
 
 /// The file was converted.
 const DONE: u8 = 0;
 
 /// Writes the lines of the file of the input in UTF-8 on the output, and reports on the faults; gives the exit status.
 /// 29, with a hint: the character set is not known. 27, 94, 95 and 1 as of `conversion_reports::convert_aloud`.
-pub(crate) fn convert<R: Read + Device, W: Write + Device, F: Write + Device>(
+pub(crate) fn convert<R: Read + Device, W: Write + Device, F: FaultStream>(
     alloc: Global,
     from: Option<SetName>,
     input: &mut R,
     output: &mut W,
     faults: &mut F,
 ) -> u8
-    ensures { converting.Converts (option_map converting.set_of from) (R.remaining input.old)
-        (W.contents output.old) (W.contents output.new) (F.contents faults.old) (F.contents faults.new)
-        (Rose (R.failed input.old) (R.failed input.new)) (Rose (W.failed output.old) (W.failed output.new))
-        (Rose (F.failed faults.old) (F.failed faults.new)) result }
+    ensures { converting.Converts F.contents F.failed (option_map converting.set_of from) (R.remaining input.old)
+        (W.contents output.old) (W.contents output.new) faults.old faults.new
+        (Rose (R.failed input.old) (R.failed input.new)) (Rose (W.failed output.old) (W.failed output.new)) result }
 {
     match convert_aloud(alloc, asked(from), input, output, faults) {
         Ok(_) => DONE,
@@ -38,22 +37,15 @@ pub(crate) fn convert<R: Read + Device, W: Write + Device, F: Write + Device>(
 }
 
 /// Prints a refusal and its hint, and gives the exit status.
-fn refuse<F: Write + Device>(refused: &Unconverted, faults: &mut F) -> u8
+fn refuse<F: FaultStream>(refused: &Unconverted, faults: &mut F) -> u8
     ensures status { result ≡ 1 }
-    ensures printed { converting.Refuses refused.now.error refused.now.hint.items
-        (F.contents faults.old) (F.contents faults.new) }
+    ensures printed { converting.Refuses F.contents F.failed refused.now.error refused.now.hint.items
+        faults.old faults.new }
 {
     let status = status_of(Err(text_of(refused.error)), faults);
-    print(faults, &refused.hint);
+    let hint: &[u8] = &refused.hint;
+    faults.report(hint);
     status
-}
-
-/// Prints a hint, or a beginning of it where the writer fails.
-fn print<F: Write + Device>(faults: &mut F, hint: &[u8])
-    ensures { AppendsBeginning (F.contents faults.old) (F.contents faults.new) hint.now }
-{
-    let before = faults.failures();
-    let _ = write_bytes(faults, before, hint);
 }
 
 /// Why a file was not converted, as it is printed.

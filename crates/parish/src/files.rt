@@ -1,4 +1,4 @@
-//! The commands on a GEDCOM file that is the input: `norm` and `check`.
+//! The commands on a GEDCOM file that is the input: `norm`, `check` and `check --all`.
 
 ghost use Rattle.std.specs.Prelude.{◌≡◌, IfErr, OnErr, OnOk};
 ghost use Rattle.std.specs.Io.KnownBytes.{Appends};
@@ -9,6 +9,7 @@ ghost use Rattle.parish.specs.Ends as ends;
 
 use archive_input::refusal_of;
 use devices::{Device, TransferError, write_bytes};
+use file_faults::{Checked, write_faults};
 use gedcom_rules::{TreeFault, TreeKind};
 use gedcom_tree::{normalise, read_forest};
 use record_text::{RefusalText, Unit};
@@ -56,6 +57,22 @@ pub(crate) fn check<R: Read + Device, W: Write + Device>(
     }
 }
 
+/// `check --all`: the same; where the file has faults, the list of its faulty lines goes to the output. Refusals as of
+/// `check`.
+pub(crate) fn check_all<R: Read + Device, W: Write + Device>(
+    alloc: Global,
+    input: &mut R,
+    output: &mut W,
+) -> Result<(), RefusalText>
+    ensures { ends.ChecksAll (R.remaining input.old) (W.contents output.old) (W.contents output.new)
+        (Rose (R.failed input.old) (R.failed input.new)) (Rose (W.failed output.old) (W.failed output.new)) result }
+{
+    match list_or_count(alloc, input, output) {
+        Ok(()) => Ok(()),
+        Err(fault) => Err(text_of(fault)),
+    }
+}
+
 /// A fault of a file as it is printed.
 fn text_of(fault: TreeFault) -> RefusalText
     ensures { result ≡ ends.fault_text (fault_view fault) }
@@ -77,27 +94,68 @@ fn count_records<R: Read + Device, W: Write + Device>(
         (Rose (R.failed input.old) (R.failed input.new)) (Rose (W.failed output.old) (W.failed output.new))
         (fault_view f)) }
 {
+    let before = output.failures();
     let forest = match read_forest(alloc, input) {
         Ok(forest) => forest,
         Err(fault) => return Err(fault),
     };
-    let records = forest.record_count();
-    let line = format!(in alloc; "ok: {records} records\n")?;
-    match print(output, &line) {
+    match print_count(alloc, forest.record_count(), before, output) {
         Ok(()) => Ok(()),
         Err(fault) => Err(fault),
     }
 }
 
-/// Writes a text. At an error a beginning of it was written.
-fn print<W: Write + Device>(output: &mut W, text: &str) -> Result<(), TreeFault>
+/// Reads a whole file, and writes the list of its faulty lines; where it has none, how many records it has.
+fn list_or_count<R: Read + Device, W: Write + Device>(
+    alloc: Global,
+    input: &mut R,
+    output: &mut W,
+) -> Result<(), TreeFault>
+    ensures ok { OnOk result (ends.Counted (R.remaining input.old)
+        (W.contents output.old) (W.contents output.new)) }
+    ensures err { IfErr result (λ f. ends.UntoldAll (R.remaining input.old)
+        (W.contents output.old) (W.contents output.new)
+        (Rose (R.failed input.old) (R.failed input.new)) (Rose (W.failed output.old) (W.failed output.new))
+        (fault_view f)) }
+{
+    let before = output.failures();
+    match write_faults(alloc, input, output) {
+        Ok(Checked::Sound(records)) => match print_count(alloc, records, before, output) {
+            Ok(()) => Ok(()),
+            Err(fault) => Err(fault),
+        },
+        Ok(Checked::Faulty(fault)) => Err(fault),
+        Err(fault) => Err(fault),
+    }
+}
+
+/// Writes how many records a file has. At an error a prefix of that was written. `before` is the count of failures at
+/// the start of the call that asks.
+#[tactic(auto, using(list_laws::proofs::Outcomes::keeps))]
+fn print_count<W: Write + Device>(
+    alloc: Global,
+    records: usize,
+    before: u64,
+    output: &mut W,
+) -> Result<(), TreeFault>
+    ensures ok { OnOk result
+        (Appends (W.contents output.old) (W.contents output.new) (ends.records_text records)) }
+    ensures err { OnErr result
+        (AppendsBeginning (W.contents output.old) (W.contents output.new) (ends.records_text records)) }
+    ensures why { IfErr result (λ f. NotWritten (Rose before (W.failed output.new)) (fault_view f)) }
+{
+    let line = format!(in alloc; "ok: {records} records\n")?;
+    print(&line, before, output)
+}
+
+/// Writes a text. At an error a prefix of it was written.
+fn print<W: Write + Device>(text: &str, before: u64, output: &mut W) -> Result<(), TreeFault>
     ensures ok { OnOk result
         (Appends (W.contents output.old) (W.contents output.new) text.now) }
     ensures err { OnErr result
         (AppendsBeginning (W.contents output.old) (W.contents output.new) text.now) }
-    ensures why { IfErr result (λ f. NotWritten (Rose (W.failed output.old) (W.failed output.new)) (fault_view f)) }
+    ensures why { IfErr result (λ f. NotWritten (Rose before (W.failed output.new)) (fault_view f)) }
 {
-    let before = output.failures();
     match write_bytes(output, before, text.as_bytes()) {
         Ok(()) => Ok(()),
         Err(TransferError::OutOfMemory) => Err(OUT_OF_MEMORY),

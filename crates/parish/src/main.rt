@@ -29,6 +29,7 @@ use std::process::ExitCode;
 use std::rt::Env;
 use std::time::Clock;
 use std::{env, io};
+use tasks::FaultStream;
 
 /// The words of the command line, the program's name first. A word that is not UTF-8 is an error.
 fn words_of(rt: &(impl Env + AllocGlobal)) -> io::Result<Vec<String>> {
@@ -40,7 +41,7 @@ fn words_of(rt: &(impl Env + AllocGlobal)) -> io::Result<Vec<String>> {
 }
 
 /// Serves the room that there is, and gives the exit status; where there is none, the status that was given.
-fn served<N, W: Write + Device, F: Write + Device>(
+fn served<N, W: Write + Device, F: FaultStream>(
     alloc: Global,
     net: &N,
     status: u8,

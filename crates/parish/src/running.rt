@@ -15,6 +15,7 @@ use archive_runs::{close_file, stop_file};
 use devices::Device;
 use std::io::{Read, Write};
 use std::rt::HostRuntime;
+use tasks::FaultStream;
 
 /// Does what the words ask for, as `command`, and closes the file. It gives the exit status, what is left of the file,
 /// and the room that is to be served.
@@ -22,7 +23,7 @@ use std::rt::HostRuntime;
 /// `ended`: nothing is lost of each archive that the file held, by what the run wrote and its status, so that runs
 /// follow each other by the law of `archive_runs`. `stopped`: nor where it is stopped after the close, with some of
 /// what it wrote seen.
-pub fn run<S: Openable, R: Read + Device, W: Write + Device, F: Write + Device>(
+pub fn run<S: Openable, R: Read + Device, W: Write + Device, F: FaultStream>(
     rt: &HostRuntime,
     words: &[String],
     start: S,
@@ -46,7 +47,7 @@ pub fn run<S: Openable, R: Read + Device, W: Write + Device, F: Write + Device>(
 
 /// The same up to a stop before the file is closed: with a disk that fails from the stop on, `command` comes to its
 /// end, and the connection is given up as it stands. Nothing calls it: it is here for its contract.
-pub fn run_to_a_stop<S: Openable, R: Read + Device, W: Write + Device, F: Write + Device>(
+pub fn run_to_a_stop<S: Openable, R: Read + Device, W: Write + Device, F: FaultStream>(
     rt: &HostRuntime,
     words: &[String],
     start: S,

@@ -13,7 +13,7 @@ use std::alloc::Global;
 use std::io::Write;
 use std::net::{Net, TcpListener, TcpStream};
 use std::time::Clock;
-use tasks::{plain, status_of};
+use tasks::{FaultStream, plain, status_of};
 
 /// A room that is to be served: the port where visitors are heard, and how many of them are answered.
 pub struct Visits {
@@ -65,7 +65,7 @@ pub(crate) fn room_of(shown: Option<Library>, port: u16, count: u32) -> Option<V
 
 impl Visits {
     /// Serves the room, and gives the exit status.
-    pub(crate) fn serve<N, W: Write + Device, F: Write + Device>(
+    pub(crate) fn serve<N, W: Write + Device, F: FaultStream>(
         self,
         alloc: Global,
         net: &N,

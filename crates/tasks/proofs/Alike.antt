@@ -85,15 +85,15 @@ module _ {S R W F : Type 0} (g : Ghosts S) (reader : read.Ghosts R) (reads : dev
   abbrev Written : Type 0
   Written = GotSame ⊎ ((b.output ≡ a.output) × (w.output ≡ v.output))
 
-  -- the status is told by the outcome
-  one_status : (o : Outcome) (x y z u : F) → Finishes faulter.contents o status x y
-      → Finishes faulter.contents o number z u → status ≡ number
+  -- the status is given by the outcome
+  one_status : (o : Outcome) (x y z u : F) → Finishes faulter.contents fails.failed o status x y
+      → Finishes faulter.contents fails.failed o number z u → status ≡ number
   one_status (Ok done) x y z u first second = first.0 ∙ sym second.0
   one_status (Err t) x y z u first second = first.0 ∙ sym second.0
 
   module _ (shown more : Option Content) (o p : Outcome) (x z : F)
-      (first : Finishes faulter.contents o status x b.faults)
-      (second : Finishes faulter.contents p number z w.faults) where
+      (first : Finishes faulter.contents fails.failed o status x b.faults)
+      (second : Finishes faulter.contents fails.failed p number z w.faults) where
     abbrev Alike : Type 0
     Alike = EndAlike writer.contents a b v w o p status number shown more
 
@@ -102,7 +102,7 @@ module _ {S R W F : Type 0} (g : Ghosts S) (reader : read.Ghosts R) (reads : dev
       same = same;
       status_same =
           one_status o x b.faults z w.faults first
-          (subst (λ (k : Outcome). Finishes faulter.contents k number z w.faults) (sym same) second);
+          (subst (λ (k : Outcome). Finishes faulter.contents fails.failed k number z w.faults) (sym same) second);
       written = written;
       shows = shows;
     }
@@ -150,8 +150,8 @@ module _ {S R W F : Type 0} (g : Ghosts S) (reader : read.Ghosts R) (reads : dev
   rooms : (o p : Outcome) (shown more : Option Content) (x z : F)
       → Shelves (state g a.archive.conn) (state g b.archive.conn) today o shown
       → Shelves (state g v.archive.conn) (state g w.archive.conn) today p more → b.output ≡ a.output
-      → w.output ≡ v.output → Finishes faulter.contents o status x b.faults
-      → Finishes faulter.contents p number z w.faults
+      → w.output ≡ v.output → Finishes faulter.contents fails.failed o status x b.faults
+      → Finishes faulter.contents fails.failed p number z w.faults
       → IsCutShort o ⊎ (IsCutShort p ⊎ EndAlike writer.contents a b v w o p status number shown more)
   rooms (Ok done) (Ok _) (Some s) (Some t) x z one two same unwritten first second = inr (inr
       (agreed (Some s) (Some t) (Ok done) (Ok _) x z first second refl (inr (same, unwritten))

@@ -1,5 +1,5 @@
 -- Tasks of a day, whose number is read from a word of 32 bits.
-use Rattle.std.proofs.Common.{◌≡◌, ◌⊎◌, ℕ, List, true, subst, Ok, Err}
+use Rattle.std.proofs.Common.{◌≡◌, ◌⊎◌, ℕ, List, subst, Ok}
 use Rattle.std.specs.Prelude.{◌≤ℤ◌, ℤ, Bool, Option, Some, IfErr, OnOk}
 use Rattle.std.specs.declared.io.Read as read
 use Rattle.std.specs.declared.io.Write as write

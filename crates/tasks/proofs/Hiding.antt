@@ -1,5 +1,5 @@
 -- What the same text, or the same refusal, says of two writers.
-use Rattle.std.proofs.Common.{◌≡◌, ◌⊎◌, ◌∙◌, ℕ, List, inl, inr, sym, subst, Ok, Err}
+use Rattle.std.proofs.Common.{◌≡◌, ◌⊎◌, ◌∙◌, ℕ, List, inl, inr, sym, Ok, Err}
 use Rattle.std.specs.Prelude.{Option, Result}
 use Rattle.record_text.specs.declared.refusal.RefusalKind.{RefusalKind}
 use Rattle.archive_output.specs.Writing.{GotNoText, GotText}

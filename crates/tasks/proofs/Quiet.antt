@@ -20,15 +20,15 @@ says (task.Import token progress) = progress
 says _ = false
 
 -- ---- a status
-pub at_most_1 : {F : Type 0} (said : F → Option (List ℕ)) (o : Outcome) (status : ℕ) (old new : F)
-    → Finishes said o status old new → status ≤ 1
-at_most_1 said (Ok done) status old new f = omega (arith, f.0)
-at_most_1 said (Err t) status old new f = omega (arith, f.0)
+pub at_most_1 : {F : Type 0} (said : F → Option (List ℕ)) (failed : F → ℕ) (o : Outcome) (status : ℕ) (old new : F)
+    → Finishes said failed o status old new → status ≤ 1
+at_most_1 said failed (Ok done) status old new f = omega (arith, f.0)
+at_most_1 said failed (Err t) status old new f = omega (arith, f.0)
 
-pub done_quiet : {F : Type 0} (said : F → Option (List ℕ)) (o : Outcome) (status : ℕ) (first old new : F)
-    → Finishes said o status old new → OnOk o (old ≡ first) → status ≡ 0 → new ≡ first
-done_quiet said (Ok done) status first old new f quiet zero = f.1 ∙ quiet
-done_quiet said (Err t) status first old new f quiet zero = absurd (omega (arith, f.0, zero))
+pub done_quiet : {F : Type 0} (said : F → Option (List ℕ)) (failed : F → ℕ) (o : Outcome) (status : ℕ)
+    (first old new : F) → Finishes said failed o status old new → OnOk o (old ≡ first) → status ≡ 0 → new ≡ first
+done_quiet said failed (Ok done) status first old new f quiet zero = f.1 ∙ quiet
+done_quiet said failed (Err t) status first old new f quiet zero = absurd (omega (arith, f.0, zero))
 
 -- ---- a task
 on_ok : {A E P : Type 0} (r : Result A E) → P → OnOk r P
@@ -59,7 +59,8 @@ module _ {S R W F : Type 0} (g : Ghosts S) (reader : read.Ghosts R) (reads : dev
 
   pub ends_at_most_1 : (t : Task) (a b : Moment g R W F) (status : ℕ) (shown : Option Content)
       → Ends g reader reads writer writes faulter fails t a b status shown → status ≤ 1
-  ends_at_most_1 t a b status shown e = at_most_1 faulter.contents e.outcome status e.between b.faults e.finishes
+  ends_at_most_1 t a b status shown e =
+      at_most_1 faulter.contents fails.failed e.outcome status e.between b.faults e.finishes
 
   pub ends_quietly : (t : Task) (a b : Moment g R W F) (status : ℕ) (shown : Option Content)
       → Ends g reader reads writer writes faulter fails t a b status shown → says t ≡ false → status ≡ 0
@@ -68,4 +69,4 @@ module _ {S R W F : Type 0} (g : Ghosts S) (reader : read.Ghosts R) (reads : dev
       let quiet = either_way a.archive.is_lost (OnOk e.outcome (e.between ≡ a.faults))
       (λ kept. does_quietly t a _ e.outcome shown (e.does kept) is)
       (λ lost. on_ok e.outcome (ap (λ (m : Moment g R W F). m.faults) (e.reopen lost).2)) in
-      done_quiet faulter.contents e.outcome status a.faults e.between b.faults e.finishes quiet zero
+      done_quiet faulter.contents fails.failed e.outcome status a.faults e.between b.faults e.finishes quiet zero

@@ -14,7 +14,7 @@ count_line rows = codes "staged "
     ++ (decimal rows.written ++ (codes " of " ++ (decimal rows.all ++ (codes " rows" ++ 10 ∷ []))))
 
 module _ {F : Type 0} (said : F → Option (List ℕ)) (failed : F → ℕ) where
-  -- the line of a count, or a beginning of it
+  -- the line of a count, or a prefix of it
   abbrev pub SaysPart : F → RowCount → F → Type 0
   SaysPart old rows new = AppendsBeginning (said old) (said new) (count_line rows)
 
@@ -23,7 +23,7 @@ module _ {F : Type 0} (said : F → Option (List ℕ)) (failed : F → ℕ) wher
   SaysCount old rows new = Appends (said old) (said new) (count_line rows)
       ⊎ ((SaysPart old rows new × Rose (failed old) (failed new)) ⊎ ((new ≡ old) × (rows.written ≢ rows.all)))
 
-  -- the same of who tells it, and whether no memory was found for a line, before and now
+  -- the same of who reports it, and whether no memory was found for a line, before and now
   abbrev pub SaysOrStarves : F → Bool → RowCount → F → Bool → Type 0
   SaysOrStarves old was rows new is = SaysPart old rows new × (is ≡ false → (was ≡ false) × SaysCount old rows new)
 

@@ -99,7 +99,7 @@ module _ {S R W F : Type 0} (g : Ghosts S) (reader : read.Ghosts R) (reads : dev
   abbrev pub PrintsNothing : Type 0
   PrintsNothing = Keeps (writer.contents a.output) (writer.contents b.output)
 
-  -- of the text a beginning was written
+  -- of the text a prefix was written
   abbrev pub PrintsPart : List ℕ → RefusalKind → Type 0
   PrintsPart text kind = IsPrintedPart text kind (writer.contents a.output) (writer.contents b.output) HasWriteFailed
 
@@ -107,7 +107,7 @@ module _ {S R W F : Type 0} (g : Ghosts S) (reader : read.Ghosts R) (reads : dev
   abbrev pub OnHeld : (List ℕ → Content → Type 0) → Type 0
   OnHeld P = OnOpen (state g a.archive.conn) (state g b.archive.conn) P
 
-  -- the archive is only read, whatever its tables are, and is lost only where 80 is told
+  -- the archive is only read, whatever its tables are, and is lost only where 80 is reported
   pub record LooksAt (told : Bool) : Type 0 where
     pub stays : OnlyReadsAny g a.archive b.archive
     pub lost : b.archive.is_lost ≡ told
@@ -136,7 +136,7 @@ module _ {S R W F : Type 0} (g : Ghosts S) (reader : read.Ghosts R) (reads : dev
   NoBatch e = (b.archive ≡ a.archive) × IsNoBatch (row_bytes (reader.remaining a.input)) e HasReadFailed
 
   -- all rows were entered, and how many was printed; or why not: they are no batch, or it was refused, and nothing is
-  -- printed; or it was entered, and of its line a beginning is printed
+  -- printed; or it was entered, and of its line a prefix is printed
   pub record EntersBatch (token : List ℕ) (source : ℕ) (outcome : Outcome) : Type 0 where
     pub entered : OnOk outcome ((answer : Answer) × Batch token source (Ok answer) × Prints (made_text answer))
     pub refused : IfErr outcome (λ t. ((Batch token source (Err t.refusal) ⊎ NoBatch t.refusal) × PrintsNothing)
@@ -152,7 +152,7 @@ module _ {S R W F : Type 0} (g : Ghosts S) (reader : read.Ghosts R) (reads : dev
   FileUntold token e = IsUntold g token (reader.remaining a.input) a.archive e b.archive HasReadFailed
 
   -- the file was imported, and what was made was printed, with its report; or why not, and nothing is printed; or it
-  -- was, and of that a beginning is printed
+  -- was, and of that a prefix is printed
   pub record ImportsFile (token : List ℕ) (outcome : Outcome) : Type 0 where
     pub imported : OnOk outcome ((answer : Answer) × (report : List ReportLine) × FileWhole token answer report
         × Prints (import_text answer report))
@@ -160,7 +160,7 @@ module _ {S R W F : Type 0} (g : Ghosts S) (reader : read.Ghosts R) (reads : dev
         ⊎ ((answer : Answer) × (report : List ReportLine) × (kind : RefusalKind) × (t ≡ placeless_text kind)
         × FileWhole token answer report × PrintsPart (import_text answer report) kind))
 
-  -- what an import says on the faults: nothing; or with `progress` the lines of its counts, or beginnings of these, and
+  -- what an import says on the faults: nothing; or with `progress` the lines of its counts, or prefixes of these, and
   -- where it is done all that are due
   abbrev pub SaysHowFar : Bool → List ℕ → Outcome → Type 0
   SaysHowFar false token outcome = IsQuiet
@@ -169,7 +169,7 @@ module _ {S R W F : Type 0} (g : Ghosts S) (reader : read.Ghosts R) (reads : dev
       a.archive b.archive a.faults b.faults)
 
   -- ---- texts of the archive, which is not changed
-  -- all of it as a file, under the name of its society; or a beginning of that
+  -- all of it as a file, under the name of its society; or a prefix of that
   pub record Exports (r : Plain) : Type 0 where
     pub written : OnOk r (OnHeld (λ society c. IsWhole (writer.contents a.output) (writer.contents b.output)
         (export_text society c)))
@@ -187,7 +187,7 @@ module _ {S R W F : Type 0} (g : Ghosts S) (reader : read.Ghosts R) (reads : dev
   abbrev pub IsUntouched : Plain → Type 0
   IsUntouched r = IfErr r (λ kind. is_failure kind ≡ true → PrintsNothing)
 
-  -- what may be shown of it on a day as a file; or a beginning of that. It is written only of an archive that is sound,
+  -- what may be shown of it on a day as a file; or a prefix of that. It is written only of an archive that is sound,
   -- whoever wrote its tables
   pub record Publishes (today : ℤ) (r : Plain) : Type 0 where
     pub written : OnOk r (OnHeld (IsPublished (writer.contents a.output) (writer.contents b.output) today))
@@ -211,7 +211,7 @@ module _ {S R W F : Type 0} (g : Ghosts S) (reader : read.Ghosts R) (reads : dev
     pub blamed : IfErr r (λ kind. kind ≡ WriteFailed → HasWriteFailed)
     pub looks : LooksAt (has_broken r)
 
-  -- what is between two days; or the days are reversed, and the connection is as it was; or a beginning of the text
+  -- what is between two days; or the days are reversed, and the connection is as it was; or a prefix of the text
   pub record ListsDays (words : Bool) (first last : ℤ) (r : Plain) : Type 0 where
     pub written : OnOk r ((first ≤ℤ last) × OnHeld (λ _ c. AreWritten words first last (writer.contents a.output)
         (writer.contents b.output) c))
@@ -223,7 +223,7 @@ module _ {S R W F : Type 0} (g : Ghosts S) (reader : read.Ghosts R) (reads : dev
     pub blamed : IfErr r (λ kind. kind ≡ WriteFailed → HasWriteFailed)
     pub looks : LooksAt (has_broken r)
 
-  -- a text of it, whether it is sound or not; or a beginning of that, or none
+  -- a text of it, whether it is sound or not; or a prefix of that, or none
   pub record PrintsText (text : Content → Option (List ℕ)) (r : Plain) : Type 0 where
     pub ended : OnRead (state g a.archive.conn) (state g b.archive.conn)
         (λ c. EndsWriting r (writer.contents a.output) (writer.contents b.output) (text c))
@@ -281,4 +281,4 @@ module _ {S R W F : Type 0} (g : Ghosts S) (reader : read.Ghosts R) (reads : dev
         (record { archive = b.archive; input = b.input; output = b.output; faults = between }) task outcome shown
     pub reopen : a.archive.is_lost ≡ true → MustReopen g reader reads writer writes faulter fails a
         (record { archive = b.archive; input = b.input; output = b.output; faults = between }) outcome shown
-    pub finishes : Finishes faulter.contents outcome status between b.faults
+    pub finishes : Finishes faulter.contents fails.failed outcome status between b.faults

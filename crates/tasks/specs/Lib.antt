@@ -1,5 +1,6 @@
 pub mod Counts
 pub mod Ends
+pub mod Faults
 pub mod Hiding
 pub mod Moments
 pub mod Parts

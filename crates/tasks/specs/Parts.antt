@@ -13,7 +13,7 @@ use Rattle.store_tables.specs.Looking.{IsFailure}
 use Rattle.tasks.specs.Status.{Outcome, placeless_text}
 use Rattle.tasks.specs.Texts.{sound_text}
 
--- no memory was found for the text, or the writer failed, and of the text a beginning was written; the writer is blamed
+-- no memory was found for the text, or the writer failed, and of the text a prefix was written; the writer is blamed
 -- only where it failed in this call, by its count
 pub record IsPrintedPart (text : List ℕ) (kind : RefusalKind) (before after : Option (List ℕ))
     (WriterFailed : Type 0) : Type 0 where
@@ -21,7 +21,7 @@ pub record IsPrintedPart (text : List ℕ) (kind : RefusalKind) (before after : 
   pub blamed : kind ≡ WriteFailed → WriterFailed
   pub written : AppendsBeginning before after text
 
--- the line of an audit was printed, or a beginning of it; or the audit found the archive wanting, and nothing is
+-- the line of an audit was printed, or a prefix of it; or the audit found a flaw in the archive, and nothing is
 -- printed. `got` is what a writer has got, `failed` how often it failed
 abbrev pub PrintsAudit : {W : Type 0} → (W → Option (List ℕ)) → (W → ℕ) → W → W → Audit → Outcome → Type 0
 PrintsAudit got failed old new (Ok n) (Ok done) = Appends (got old) (got new) (sound_text n)

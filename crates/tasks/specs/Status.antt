@@ -1,13 +1,13 @@
 -- The exit status of a task, and the line of a refusal. Rules of our own.
 use Rattle.std.specs.Prelude.{◌≡◌, ◌++◌, ◌∷◌, [], ℕ, Bool, false, List, Option, None, Some, Result, Ok, Err, codes}
 use Rattle.std.specs.Fmt.{decimal}
-use Rattle.devices.specs.Devices.{AppendsBeginning}
 use Rattle.record_text.specs.Refusals.{name_of, number_of, unit_name}
 use Rattle.record_text.specs.declared.refusal.RefusalKind.{RefusalKind}
 use Rattle.record_text.specs.declared.refusal.RefusalText.{RefusalText}
 use Rattle.record_text.specs.declared.refusal.Unit.{Unit as Counted}
 use Rattle.record_text.specs.declared.refusal.Unit.TheVariants as unit
 use Rattle.store.specs.Histories.{is_storage}
+use Rattle.tasks.specs.Faults.{IsReported}
 
 -- what is done, or why it is not, with the place
 abbrev pub Outcome : Type 0
@@ -29,19 +29,22 @@ abbrev pub is_80 : Outcome → Bool
 is_80 (Ok done) = false
 is_80 (Err t) = is_storage t.refusal.kind
 
--- the place of a refusal: ` at line 4`, ` at row 4`
+-- the number of a refusal and its name: `parish: 22 NoTrailer`
+abbrev pub kind_text : RefusalKind → List ℕ
+kind_text kind = codes "parish: " ++ (decimal (number_of kind) ++ (codes " " ++ name_of kind))
+
+-- its place: ` at line 4`, ` at row 4`
 abbrev pub place_text : Counted → Option ℕ → List ℕ
 place_text unit None = []
 place_text unit (Some n) = codes " at " ++ (unit_name unit ++ (codes " " ++ decimal n))
 
--- the line of a refusal: its number, its name, and its place where it has one
+-- the line of a refusal, with its place where it has one
 abbrev pub refusal_line : RefusalText → List ℕ
-refusal_line t = codes "parish: " ++ (decimal (number_of t.refusal.kind)
-    ++ (codes " " ++ (name_of t.refusal.kind ++ (place_text t.unit t.refusal.at ++ 10 ∷ []))))
+refusal_line t = kind_text t.refusal.kind ++ (place_text t.unit t.refusal.at ++ 10 ∷ [])
 
--- 0, and nothing more is said on the faults; or 1, with the line of the refusal there, or a beginning of it where they
--- fail. `said` is what the faults have got
-abbrev pub Finishes : {F : Type 0} → (F → Option (List ℕ)) → Outcome → ℕ → F → F → Type 0
-Finishes said (Ok done) status old new = (status ≡ 0) × (new ≡ old)
-Finishes said (Err refusal) status old new = (status ≡ 1) × AppendsBeginning (said old) (said new)
-    (refusal_line refusal)
+-- 0, and nothing more is said on the faults; or 1, with the line of the refusal there, whole but where they failed, by
+-- their count. `said` is what the faults have got, `failed` how often they failed
+abbrev pub Finishes : {F : Type 0} → (F → Option (List ℕ)) → (F → ℕ) → Outcome → ℕ → F → F → Type 0
+Finishes said failed (Ok done) status old new = (status ≡ 0) × (new ≡ old)
+Finishes said failed (Err refusal) status old new = (status ≡ 1)
+    × IsReported said failed old new (refusal_line refusal)

@@ -1,6 +1,6 @@
 //! An archive that is open, audited, and what is printed of that.
 
-ghost use Rattle.std.specs.Prelude.{◌≡◌, false, IfErr, IfOk, OnErr, OnOk, None, string_bytes};
+ghost use Rattle.std.specs.Prelude.{◌≡◌, false, IfErr, IfOk, OnOk, string_bytes};
 ghost use Rattle.std.specs.Io.KnownBytes.{Appends};
 ghost use Rattle.sqlite.specs.Held.{state};
 ghost use Rattle.sqlite.specs.State.{HasCleanDisk};
@@ -67,7 +67,7 @@ fn print_sound<W: Write + Device>(
     write_text(&line, output)
 }
 
-/// How many records a sound archive has. Refused only for want of memory.
+/// How many records a sound archive has. Refused only if memory is.
 fn sound_line(alloc: Global, records: u32) -> Result<String, AllocError>
     ensures { IfOk result (λ line. string_bytes line ≡ sound_text records) }
 {

@@ -1,12 +1,11 @@
 //! A batch of register entries, entered on an archive, and the line that says so.
 
-ghost use Rattle.std.specs.Prelude.{◌≡◌, ◌⊎◌, Err, IfErr, IfOk, Ok, OnErr, OnOk, string_bytes};
+ghost use Rattle.std.specs.Prelude.{◌≡◌, ◌⊎◌, Err, IfErr, IfOk, Ok, OnOk, string_bytes};
 ghost use Rattle.std.specs.Io.KnownBytes.{Appends, Keeps};
 ghost use Rattle.request_csv.specs.Input.{row_bytes};
-ghost use Rattle.devices.specs.Devices.{AppendsBeginning, Rose};
+ghost use Rattle.devices.specs.Devices.{Rose};
 ghost use Rattle.receipts.specs.declared.answer.Answer.{Answer as SpecAnswer};
 ghost use Rattle.record_text.specs.declared.refusal.RefusalKind.{RefusalKind as SpecKind};
-ghost use Rattle.record_text.specs.declared.refusal.RefusalKind.TheVariants.{OutOfMemory, WriteFailed};
 ghost use Rattle.archive_input.specs.Entering.{Enters, IsNoBatch};
 ghost use Rattle.tasks.specs.Parts.{IsPrintedPart};
 ghost use Rattle.tasks.specs.Status.{placeless_text};
@@ -25,7 +24,7 @@ use store::Archive;
 
 /// Enters the rows of the input as a batch of a source, under a token, and prints how many entries were made, with the
 /// number of the first. Refusals as of `archive_input::enter`, with the row; nothing is printed then. 95: the output
-/// failed. 1: no memory was found for the line. At these two the batch was entered, and of the line a beginning may be
+/// failed. 1: no memory was found for the line. At these two the batch was entered, and of the line a prefix may be
 /// printed.
 pub(crate) fn enter_batch<S: Alter, R: Read + Device, W: Write + Device>(
     alloc: Global,
@@ -70,7 +69,7 @@ fn print_made<W: Write + Device>(
     write_text(&line, output)
 }
 
-/// How many entries were made, and the number of the first. Refused only for want of memory.
+/// How many entries were made, and the number of the first. Refused only if memory is.
 fn made_line(alloc: Global, answer: Answer) -> Result<String, AllocError>
     ensures { IfOk result (λ line. string_bytes line ≡ made_text answer) }
 {

@@ -40,7 +40,7 @@ use store::Archive;
 ///
 /// Refusals as of `archive_input::import`, with the line; nothing is printed then. 95: the output failed. 1: no memory
 /// was found for what is printed, or by the faults for a line of `progress`. At these two the file was imported, and a
-/// beginning may be printed.
+/// prefix may be printed.
 pub(crate) fn import_file<
     S: Alter,
     C: Clock,
@@ -111,7 +111,7 @@ fn take_in<S: Alter, C: Clock, R: Read + Device, F: Write + Device>(
     }
 }
 
-/// Imports the file of the input, and tells how far it is.
+/// Imports the file of the input, and reports how far it is.
 ///
 /// 1 also where the faults found no memory for a line: the file was imported.
 fn take_in_aloud<S: Alter, C: Clock, R: Read + Device, F: Write + Device>(

@@ -1,9 +1,7 @@
 //! The tasks of the program on an archive that is open, over any store and any streams.
 //!
-//! It uses `archive_input` for rows of requests and entries, `archive_input` for files, `archive_output`,
-//! `archive_output`,
-//! `archive_output` and `archive_lists` for what is written of an archive, and `store`, whose archive all of them work
-//! on. It opens no file.
+//! It uses `archive_input` for what is read, `archive_output` and `archive_lists` for what is written, and `store`,
+//! whose archive all of them work on. It opens no file.
 //!
 //! Callers may rely on: `perform_task` ends as `Ends` says of the task, which has an arm for each: what was read, what
 //! was written, the status, and what the archive holds then.
@@ -11,6 +9,7 @@
 
 mod auditing;
 mod entering;
+mod faults;
 mod importing;
 pub mod laws;
 mod libraries;
@@ -19,6 +18,7 @@ mod progress;
 mod status;
 mod task;
 
+pub use faults::FaultStream;
 pub use perform::perform_task;
 pub use status::{placeless, plain, status_of};
 pub use task::Task;

@@ -5,6 +5,7 @@ ghost use Rattle.tasks.specs.Ends.{Does, Ends, MustReopen};
 
 use crate::auditing::audit_archive;
 use crate::entering::enter_batch;
+use crate::faults::FaultStream;
 use crate::importing::import_file;
 use crate::libraries::show_library;
 use crate::status::{placeless, plain, status_of};
@@ -30,7 +31,7 @@ use store::Archive;
 /// 81: a call or a look answered 80 before, and the archive has to be opened again; nothing is read, written or
 /// changed. While an import is open, tasks that read serve, and requests are refused with 84. Else refusals are those
 /// of the task.
-pub fn perform_task<S: Alter, C: Clock, R: Read + Device, W: Write + Device, F: Write + Device>(
+pub fn perform_task<S: Alter, C: Clock, R: Read + Device, W: Write + Device, F: FaultStream>(
     alloc: Global,
     clock: &C,
     archive: &mut Archive<S>,

@@ -1,4 +1,4 @@
-//! How far an import is, told on the stream of faults.
+//! How far an import is, reported on the stream of faults.
 
 ghost use Rattle.std.specs.Prelude.{◌≡◌, ◌≢◌, IfSome, false, true};
 ghost use Rattle.tasks.specs.Counts.{SaysAloud, SaysOrStarves, count_line};
@@ -13,7 +13,7 @@ use std::time::{Clock, Instant};
 /// More bytes than the longest line has: that of two numbers of 64 bits has 57.
 const LINE: usize = 64;
 
-/// Tells how far an import is: a line on the stream of faults, at most one a second, and one at its end.
+/// Reports how far an import is: a line on the stream of faults, at most one a second, and one at its end.
 #[derive(Drop)]
 pub(crate) struct ProgressLines<'a, C: Clock, F: Write + Device> {
     pub(crate) clock: &'a C,
@@ -69,7 +69,7 @@ fn is_time<C: Clock>(clock: &C, last: &mut Option<Instant>) -> bool {
     true
 }
 
-/// Whether a count is not told: it is not due, and rows are left to be written.
+/// Whether a count is not reported: it is not due, and rows are left to be written.
 fn is_left_out(rows: RowCount, is_due: bool) -> bool
     ensures { result ≡ true → rows.written ≢ rows.all }
 {

@@ -21,6 +21,6 @@ returns-in-Err g c = inl (record {
   unwritten = refl;
   unshown = refl;
   finishes = subst
-      (λ (t : RefusalText). Finishes g.F.Write.contents (Err t) c.status_of.result c.args.faults.now
+      (λ (t : RefusalText). Finishes g.F.Write.contents g.F.Device.failed (Err t) c.status_of.result c.args.faults.now
       c.status_of.new.faults) c.placeless.ensures c.status_of.ensures;
 })

@@ -17,7 +17,7 @@ use Rattle.parish.proofs.Ending.{does_at_most_1, does_quietly}
 use Rattle.parish.proofs.Untaken.{untaken}
 use Rattle.parish.proofs.command.command.Goals as goal
 
--- words that were refused are no want of memory
+-- words that were refused are not out of memory
 abbrev IsWords : Refused → Type 0
 IsWords (Words text) = Unit {0}
 IsWords OutOfMemory = ⊥
@@ -42,6 +42,7 @@ quiet (asked.Import file token progress) words of has no_apply no_convert no_imp
 quiet (asked.Convert from) words of has no_apply no_convert no_import = absurd (no_convert of)
 quiet asked.Norm words of has no_apply no_convert no_import = refl
 quiet asked.Check words of has no_apply no_convert no_import = refl
+quiet asked.CheckAll words of has no_apply no_convert no_import = refl
 quiet (asked.Init file society) words of has no_apply no_convert no_import = refl
 quiet (asked.Entries file source token) words of has no_apply no_convert no_import = refl
 quiet (asked.Export file) words of has no_apply no_convert no_import = refl
@@ -119,8 +120,8 @@ returns-in-Err-OutOfMemory-clause-others g c = λ none. (
     refl,
     inr (record {
       finishes = subst
-          (λ (t : RefusalText). Finishes g.F.Write.contents (Err t) c.status_of.result c.args.faults.now
-          c.status_of.new.faults) c.placeless.ensures c.status_of.ensures;
+          (λ (t : RefusalText). Finishes g.F.Write.contents g.F.Device.failed (Err t) c.status_of.result
+          c.args.faults.now c.status_of.new.faults) c.placeless.ensures c.status_of.ensures;
       unread = refl;
       unwritten = refl;
       unopened = (tt, refl);
@@ -131,7 +132,7 @@ returns-in-Err-OutOfMemory-clause-others g c = λ none. (
 pub returns-in-Err-OutOfMemory-clause-does : goal.returns-in-Err-OutOfMemory-clause-does
 returns-in-Err-OutOfMemory-clause-does g c = λ taken. inl (record {
   finishes = subst
-      (λ (t : RefusalText). Finishes g.F.Write.contents (Err t) c.status_of.result c.args.faults.now
+      (λ (t : RefusalText). Finishes g.F.Write.contents g.F.Device.failed (Err t) c.status_of.result c.args.faults.now
       c.status_of.new.faults) c.placeless.ensures c.status_of.ensures;
   unread = refl;
   unwritten = refl;

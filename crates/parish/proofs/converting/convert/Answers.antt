@@ -10,7 +10,7 @@ returns-in-Err g c = inr (
   record {
     why = c.in-Err.refused.error;
     hint = c.in-Err.refused.hint.items;
-    reported = g.F.Write.contents c.convert_aloud.new.faults;
+    reported = c.convert_aloud.new.faults;
     left = rw (sym c.asked.ensures) c.in-Err.ensures.error;
     hint_is = c.in-Err.ensures.hint;
     refuses = c.refuse.ensures.printed;

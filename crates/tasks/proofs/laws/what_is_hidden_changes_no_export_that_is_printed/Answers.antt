@@ -1,6 +1,5 @@
-use Rattle.std.proofs.Common.{inl, inr, length, sym, subst, ◌≤◌}
+use Rattle.std.proofs.Common.{inl, inr, sym, subst}
 use Rattle.std.specs.Io.KnownBytes.{Appends}
-use Rattle.archive_output.specs.Exporting.{export_text}
 use Rattle.archive_state.specs.Content.{Records}
 use Rattle.gedcom_export.specs.Forest.{exported}
 use Rattle.gedcom_tree.specs.Text.{text}

@@ -1,4 +1,4 @@
-use Rattle.std.proofs.Common.{◌≡◌, inl, inr, sym, subst}
+use Rattle.std.proofs.Common.{inl, inr, sym, subst}
 use Rattle.archive_state.specs.Content.{Records}
 use Rattle.archive_output.specs.Sheets.{sheet_text}
 use Rattle.archive_output.specs.Writing.{GotNoText, GotText}

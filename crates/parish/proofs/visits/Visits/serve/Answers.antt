@@ -6,7 +6,7 @@ use Rattle.parish.proofs.visits.Visits.serve.Goals as goal
 pub returns : goal.returns
 returns g c =
     let did = c.serve.ensures in
-    visits_end c.serve.result _ c.status_of.result _ _ _ g.F.Write.contents _ _
-    (subst (λ o. Finishes g.F.Write.contents o c.status_of.result c.args.faults.now c.status_of.new.faults)
-    c.plain.ensures c.status_of.ensures)
+    visits_end c.serve.result _ c.status_of.result _ _ _ g.F.Write.contents g.F.Device.failed _ _
+    (subst (λ o. Finishes g.F.Write.contents g.F.Device.failed o c.status_of.result c.args.faults.now
+    c.status_of.new.faults) c.plain.ensures c.status_of.ensures)
     did.ok did.err did.failed
