@@ -95,8 +95,16 @@ FOUND = (
     (("muller", "--kind", "repositories"), (9,)),
     (("muller", "--kind", "entries"), (12,)),
     (("muller", "--kind", "families"), ()),
-    (("muller", "--limit", "2"), (1, 9)),
+    (("muller", "--limit", "3"), (1, 9, 12)),
+    (("muller", "--limit", "4294967295"), (1, 9, 12)),
     (("muller", "--kind", "entries", "--limit", "1"), (12,)),
+)
+# Searches whose limit leaves some out, and how many.
+FOUND_IN_PART = (
+    (("muller", "--limit", "2"), (1, 9), 1),
+    (("muller", "--limit", "1"), (1,), 2),
+    (("ann", "muller", "--limit", "1"), (1,), 1),
+    (("tom", "--kind", "persons", "--limit", "1"), (2,), 0),
 )
 # A file whose records are 1 to 3 of a new archive, with lines that no field takes.
 CARRIED = between("0 @I1@ INDI", "1 NAME Ann /Lee/", "2 NICK Annie", "1 ASSO @I2@", "2 RELA aunt", "0 @I2@ INDI",
@@ -135,6 +143,10 @@ def line(number):
 
 def listed(numbers):
     return written("".join(map(line, numbers)).encode())
+
+
+def said_of(more):
+    return f"and {more} more\n" if more else ""
 
 
 def whole(number):
@@ -178,6 +190,8 @@ def searches_by_hand(tools):
         before = at.with_rows(ROWS).tables()
         for words, numbers in FOUND:
             expect(at.find(*words), listed(numbers))
+        for words, numbers, more in FOUND_IN_PART:
+            expect(at.find(*words), written(f"{''.join(map(line, numbers))}{said_of(more)}".encode()))
         demand(at.tables() == before, "the tables changed")
 
 
@@ -239,6 +253,22 @@ def page_by_page(tools):
         demand(got == whole_list, "the pages are not the list")
         numbers = [int(it.split()[0]) for it in at.find("lee3").out.splitlines()]
         demand(numbers == [2 * n + 1 for n in range(3, 700, 7)], f"{numbers}")
+
+
+def more_than_a_thousand(tools):
+    """`find` prints 1,000 lines, or as many as its limit says, and how many more there are; `list` prints all."""
+    with Listed(tools) as at:
+        at.with_rows(tuple(row for n in range(1_001) for row in (f"p{n},person,Ann /Lee/,", f"q{n},place,Lee Green,")))
+        persons = [f"{2 * n + 1}  person  Ann Lee\n" for n in range(1_001)]
+        both = [line for n in range(1_001) for line in (persons[n], f"{2 * n + 2}  place  Lee Green\n")]
+        for words, lines, limit in (
+            (("ann",), persons, 1_000), (("lee",), both, 1_000), (("lee", "--kind", "persons"), persons, 1_000),
+            (("lee", "--limit", "1001"), both, 1_001), (("ann", "--limit", "1001"), persons, 1_001),
+            (("lee", "--limit", "5000"), both, 5_000), (("lee", "--limit", "7"), both, 7),
+        ):
+            expected = "".join(lines[:limit]) + said_of(len(lines[limit:]))
+            expect(at.find(*words), written(expected.encode()))
+        expect(at.persons(), written("".join(persons).encode()))
 
 
 def what_is_removed_and_merged(tools):
@@ -328,6 +358,7 @@ TESTS = (
     characters_that_are_not_printed,
     an_archive_without_records,
     page_by_page,
+    more_than_a_thousand,
     what_is_removed_and_merged,
     words_that_are_refused,
     no_archive,

@@ -26,8 +26,9 @@ A record is found where one of its names has all words, each at the beginning of
 a word of it: names of persons, of those whom register entries mention, of places
 and repositories, and titles of sources. Case, marks and how letters are composed
 make no difference: muller finds Müller, neil O'Neil. A line is that of `list`,
-and so are the kinds of --kind. A WORD without letters and digits is refused. The
-living are not hidden: the archive is not changed, and nothing is for visitors.
+and so are the kinds of --kind. Where records are left out, a last line says how
+many: `and 37 more`. A WORD without letters and digits is refused. The living are
+not hidden: the archive is not changed, and nothing is for visitors.
 
 Refusals:
   40 BadStored     what is stored is no record: somebody else wrote FILE
