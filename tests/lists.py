@@ -272,16 +272,36 @@ def more_than_a_thousand(tools):
 
 
 def what_is_removed_and_merged(tools):
-    """50 for what is removed, for who is gone, and for a slip, which is no record; and nothing is written."""
+    """50 for what is removed and for who is gone, and nothing is written; a merge is shown by its slip."""
     with Listed(tools) as at:
         at.with_rows(("a,person,Ann /Lee/,F", "b,person,Anna /Lee/,F", "c,place,Kent,"))
         answers = at.apply(b"m,merge,1,2\nr,remove,3\n").out
         demand(answers == b"m,ok,4,1\nr,ok,0,0\n", f"{answers!r}")
-        for number in (2, 3, 4, 5, 4_294_967_295):
+        for number in (2, 3, 5, 4_294_967_295):
             expect(at.show(number), refused(50))
             expect(at.show(1, number), refused(50))
             expect(at.show(number, 1), refused(50))
         expect(at.list("persons"), written(b"1  person  Ann Lee\n"))
+
+
+def a_slip_of_a_merge(tools):
+    """Who was merged into whom, the records that changed as they were before, and the person that stays."""
+    with Listed(tools) as at:
+        at.with_rows(("a,person,Ann /Lee/,F", "b,person,Anna /Lee/,F", "c,person,Tom /Lee/,M", "d,family,3,2",
+                      "e,event,1,BIRT,,,"))
+        answers = at.apply(b"m,merge,1,2\n").out
+        demand(answers == b"m,ok,6,1\n", f"{answers!r}")
+        changed = "before: 1  person  Ann Lee\nbefore: 2  person  Anna Lee\nbefore: 4  family  husband 3  wife 2\n"
+        end = f"merged: 2\ninto: 1\n{changed}names: 1  person  Ann Lee\n"
+        expect(at.show(6), written(f"6  slip  2 into 1\n{end}".encode()))
+        expect(at.show(6, 6), written(f"6  slip  2 into 1\n{end}\n6  slip  2 into 1\n{end}".encode()))
+        expect(at.show(2), refused(50))
+        expect(at.show(6, 2), refused(50))
+        answers = at.apply(b"u,undo,6\n").out
+        demand(answers == b"u,ok,0,0\n", f"{answers!r}")
+        before = at.tables()
+        expect(at.show(6), written(f"6  slip  2 into 1  undone\n{end}".encode()))
+        demand(at.tables() == before, "the tables changed")
 
 
 def words_that_are_refused(tools):
@@ -360,6 +380,7 @@ TESTS = (
     page_by_page,
     more_than_a_thousand,
     what_is_removed_and_merged,
+    a_slip_of_a_merge,
     words_that_are_refused,
     no_archive,
     lines_of_no_record,
