@@ -95,8 +95,16 @@ FOUND = (
     (("muller", "--kind", "repositories"), (9,)),
     (("muller", "--kind", "entries"), (12,)),
     (("muller", "--kind", "families"), ()),
-    (("muller", "--limit", "2"), (1, 9)),
+    (("muller", "--limit", "3"), (1, 9, 12)),
+    (("muller", "--limit", "4294967295"), (1, 9, 12)),
     (("muller", "--kind", "entries", "--limit", "1"), (12,)),
+)
+# Searches whose limit leaves some out, and how many.
+FOUND_IN_PART = (
+    (("muller", "--limit", "2"), (1, 9), 1),
+    (("muller", "--limit", "1"), (1,), 2),
+    (("ann", "muller", "--limit", "1"), (1,), 1),
+    (("tom", "--kind", "persons", "--limit", "1"), (2,), 0),
 )
 # A file whose records are 1 to 3 of a new archive, with lines that no field takes.
 CARRIED = between("0 @I1@ INDI", "1 NAME Ann /Lee/", "2 NICK Annie", "1 ASSO @I2@", "2 RELA aunt", "0 @I2@ INDI",
@@ -135,6 +143,10 @@ def line(number):
 
 def listed(numbers):
     return written("".join(map(line, numbers)).encode())
+
+
+def said_of(more):
+    return f"and {more} more\n" if more else ""
 
 
 def whole(number):
@@ -178,6 +190,8 @@ def searches_by_hand(tools):
         before = at.with_rows(ROWS).tables()
         for words, numbers in FOUND:
             expect(at.find(*words), listed(numbers))
+        for words, numbers, more in FOUND_IN_PART:
+            expect(at.find(*words), written(f"{''.join(map(line, numbers))}{said_of(more)}".encode()))
         demand(at.tables() == before, "the tables changed")
 
 
@@ -241,17 +255,53 @@ def page_by_page(tools):
         demand(numbers == [2 * n + 1 for n in range(3, 700, 7)], f"{numbers}")
 
 
+def more_than_a_thousand(tools):
+    """`find` prints 1,000 lines, or as many as its limit says, and how many more there are; `list` prints all."""
+    with Listed(tools) as at:
+        at.with_rows(tuple(row for n in range(1_001) for row in (f"p{n},person,Ann /Lee/,", f"q{n},place,Lee Green,")))
+        persons = [f"{2 * n + 1}  person  Ann Lee\n" for n in range(1_001)]
+        both = [line for n in range(1_001) for line in (persons[n], f"{2 * n + 2}  place  Lee Green\n")]
+        for words, lines, limit in (
+            (("ann",), persons, 1_000), (("lee",), both, 1_000), (("lee", "--kind", "persons"), persons, 1_000),
+            (("lee", "--limit", "1001"), both, 1_001), (("ann", "--limit", "1001"), persons, 1_001),
+            (("lee", "--limit", "5000"), both, 5_000), (("lee", "--limit", "7"), both, 7),
+        ):
+            expected = "".join(lines[:limit]) + said_of(len(lines[limit:]))
+            expect(at.find(*words), written(expected.encode()))
+        expect(at.persons(), written("".join(persons).encode()))
+
+
 def what_is_removed_and_merged(tools):
-    """50 for what is removed, for who is gone, and for a slip, which is no record; and nothing is written."""
+    """50 for what is removed and for who is gone, and nothing is written; a merge is shown by its slip."""
     with Listed(tools) as at:
         at.with_rows(("a,person,Ann /Lee/,F", "b,person,Anna /Lee/,F", "c,place,Kent,"))
         answers = at.apply(b"m,merge,1,2\nr,remove,3\n").out
         demand(answers == b"m,ok,4,1\nr,ok,0,0\n", f"{answers!r}")
-        for number in (2, 3, 4, 5, 4_294_967_295):
+        for number in (2, 3, 5, 4_294_967_295):
             expect(at.show(number), refused(50))
             expect(at.show(1, number), refused(50))
             expect(at.show(number, 1), refused(50))
         expect(at.list("persons"), written(b"1  person  Ann Lee\n"))
+
+
+def a_slip_of_a_merge(tools):
+    """Who was merged into whom, the records that changed as they were before, and the person that stays."""
+    with Listed(tools) as at:
+        at.with_rows(("a,person,Ann /Lee/,F", "b,person,Anna /Lee/,F", "c,person,Tom /Lee/,M", "d,family,3,2",
+                      "e,event,1,BIRT,,,"))
+        answers = at.apply(b"m,merge,1,2\n").out
+        demand(answers == b"m,ok,6,1\n", f"{answers!r}")
+        changed = "before: 1  person  Ann Lee\nbefore: 2  person  Anna Lee\nbefore: 4  family  husband 3  wife 2\n"
+        end = f"merged: 2\ninto: 1\n{changed}names: 1  person  Ann Lee\n"
+        expect(at.show(6), written(f"6  slip  2 into 1\n{end}".encode()))
+        expect(at.show(6, 6), written(f"6  slip  2 into 1\n{end}\n6  slip  2 into 1\n{end}".encode()))
+        expect(at.show(2), refused(50))
+        expect(at.show(6, 2), refused(50))
+        answers = at.apply(b"u,undo,6\n").out
+        demand(answers == b"u,ok,0,0\n", f"{answers!r}")
+        before = at.tables()
+        expect(at.show(6), written(f"6  slip  2 into 1  undone\n{end}".encode()))
+        demand(at.tables() == before, "the tables changed")
 
 
 def words_that_are_refused(tools):
@@ -328,7 +378,9 @@ TESTS = (
     characters_that_are_not_printed,
     an_archive_without_records,
     page_by_page,
+    more_than_a_thousand,
     what_is_removed_and_merged,
+    a_slip_of_a_merge,
     words_that_are_refused,
     no_archive,
     lines_of_no_record,

@@ -1,19 +1,49 @@
 -- The lines of a page of records, and records shown whole, as texts: rules of our own.
-use Rattle.std.specs.Prelude.{ℕ, List, [], ◌∷◌, ◌++◌, codes, fold, Option, Some, None}
+use Rattle.std.specs.Prelude.{
+  ℕ,
+  List,
+  [],
+  ◌∷◌,
+  ◌++◌,
+  codes,
+  decimal,
+  fold,
+  if◌then◌else◌,
+  length,
+  nat_lt,
+  Option,
+  Some,
+  None,
+}
 use Rattle.std.specs.List.{flat_map}
 use Rattle.std.specs.FinMap.{entries}
 use Rattle.archive_state.specs.Content.{Content}
-use Rattle.searching.specs.Lines.{page}
-use Rattle.searching.specs.declared.wanted.Wanted.{Wanted}
+use Rattle.record_kinds.specs.declared.record.Record.{Record}
+use Rattle.searching.specs.Lines.{page, page_and_others}
+use Rattle.searching.specs.declared.wanted.Listing.{Listing}
 use Rattle.showing.specs.Shown.{shown_at}
 
 -- a line with its end
 abbrev pub ended : ℕ × List ℕ → List ℕ
 ended l = l.1 ++ codes "\n"
 
--- the lines of the first so many records after a number that are wanted
-abbrev pub list_text : Wanted → ℕ → ℕ → Content → List ℕ
-list_text w after limit c = flat_map ended (page w after limit (entries c.records))
+-- how many records are left out, where there are some
+abbrev pub more_text : ℕ → List ℕ
+more_text n = if nat_lt 0 n then codes "and " ++ (decimal n ++ codes " more\n") else []
+
+-- lines, and how many records there are besides
+abbrev pub counted_text : List (ℕ × List ℕ) × List ℕ → List ℕ
+counted_text found = flat_map ended found.0 ++ more_text (length found.1)
+
+-- the lines of the first so many records after a number that are wanted; where it is asked for, how many more there are
+abbrev pub text_of : Listing → List (ℕ × Record) → List ℕ
+text_of l es =
+    if l.counts_others then counted_text (page_and_others l.wanted l.after l.limit es)
+    else flat_map ended (page l.wanted l.after l.limit es)
+
+-- the same of all records
+abbrev pub list_text : Listing → Content → List ℕ
+list_text l c = text_of l (entries c.records)
 
 -- a text below what stands there, with a blank line between
 abbrev pub below : List ℕ → List ℕ → List ℕ

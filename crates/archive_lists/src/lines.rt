@@ -1,30 +1,76 @@
-//! The lines of a page of records, as a text.
+//! The lines of records, as a text.
 
 ghost use Rattle.std.specs.Prelude.{◌≡◌, ◌++◌, IfOk, OnOk, Some, option_map, string_bytes};
+ghost use Rattle.std.specs.FinMap.{entries};
 ghost use Rattle.std.specs.List.{flat_map};
 ghost use Rattle.archive_state.specs.Looks.{CountsFailures, Looked};
 ghost use Rattle.archive_state.specs.Views.{On};
+ghost use Rattle.searching.specs.Lines as lines;
 ghost use Rattle.archive_lists.specs.Texts as texts;
 
 use archive_state::View;
 use record_text::RefusalKind;
-use searching::{Line, Wanted, page};
+use searching::{Found, Line, Listing, page, page_and_others};
 use std::alloc::{AllocError, Global};
 
-/// The lines of the first so many records after a number that are wanted, by number. There always is a text.
+/// The lines of a listing, by number, and how many more there are where that is asked for. There always is a text.
 pub(crate) fn list_text<V: View>(
     alloc: Global,
     view: &mut V,
-    wanted: &Wanted,
-    after: u32,
-    limit: usize,
+    listing: &Listing,
 ) -> Result<Option<String>, RefusalKind>
     ensures shows { On V.View view.old view.new (λ c. Looked result
-        (λ text. option_map string_bytes text ≡ Some (texts.list_text wanted.now after limit c))) }
+        (λ text. option_map string_bytes text ≡ Some (texts.list_text listing.now c))) }
     ensures counts { CountsFailures (V.failed view.old) (V.failed view.new) result }
 {
-    let lines = page(alloc, view, wanted, after, limit)?;
-    Ok(Some(text_of(alloc, &lines)?))
+    let text = if listing.counts_others {
+        counted_text(alloc, view, listing)?
+    } else {
+        page_text(alloc, view, listing)?
+    };
+    Ok(Some(text))
+}
+
+/// The lines, whatever is left out.
+fn page_text<V: View>(alloc: Global, view: &mut V, listing: &Listing) -> Result<String, RefusalKind>
+    ensures shows { On V.View view.old view.new (λ c. Looked result (λ text. string_bytes text ≡ flat_map texts.ended
+        (lines.page listing.now.wanted listing.now.after listing.now.limit (entries c.records)))) }
+    ensures counts { CountsFailures (V.failed view.old) (V.failed view.new) result }
+{
+    let lines = page(alloc, view, &listing.wanted, listing.after, listing.limit)?;
+    Ok(text_of(alloc, &lines)?)
+}
+
+/// The lines, and how many records are left out.
+fn counted_text<V: View>(
+    alloc: Global,
+    view: &mut V,
+    listing: &Listing,
+) -> Result<String, RefusalKind>
+    ensures shows { On V.View view.old view.new (λ c. Looked result (λ text. string_bytes text ≡ texts.counted_text
+        (lines.page_and_others listing.now.wanted listing.now.after listing.now.limit (entries c.records)))) }
+    ensures counts { CountsFailures (V.failed view.old) (V.failed view.new) result }
+{
+    let found = page_and_others(alloc, view, &listing.wanted, listing.after, listing.limit)?;
+    Ok(found_text(alloc, &found)?)
+}
+
+fn found_text(alloc: Global, found: &Found) -> Result<String, AllocError>
+    ensures { IfOk result (λ s. string_bytes s ≡ texts.counted_text found.now) }
+{
+    let mut out = text_of(alloc, &found.lines)?;
+    push_more(&mut out, found.others.len())?;
+    Ok(out)
+}
+
+/// How many records are left out, where there are some.
+fn push_more(out: &mut String, more: usize) -> Result<(), AllocError>
+    ensures { OnOk result (string_bytes out.new ≡ string_bytes out.old ++ texts.more_text more) }
+{
+    if more > 0 {
+        write!(out, "and {more} more\n")?;
+    }
+    Ok(())
 }
 
 fn text_of(alloc: Global, lines: &[Line]) -> Result<String, AllocError>

@@ -139,7 +139,7 @@ module _ {R W F : Type 0} (reader : read.Ghosts R) (reads : device.Ghosts R) (wr
   acts_none (task.Library today) c none never = refl
   acts_none task.Audit c none never = refl
   acts_none (task.Days first last words) c none never = refl
-  acts_none (task.List wanted after limit) c none never = refl
+  acts_none (task.List listing) c none never = refl
   acts_none (task.Show numbers) c none never = refl
 
   pub keeps_none : (t : Task) (society : List ℕ) (c : Content) (left : Trees) → Acts c (Some t) (run t) []
@@ -488,9 +488,9 @@ module _ {R W F : Type 0} (reader : read.Ghosts R) (reads : device.Ghosts R) (wr
       found_by law back (task.Days first last words) o shown did finishes =
           keeps_none (task.Days first last words) society c left refl
           (inl (days_listed first last words did.0.0 did.0.2))
-      found_by law back (task.List wanted after limit) o shown did finishes =
-          keeps_none (task.List wanted after limit) society c left refl
-          (inl (text_printed (λ k. Some (list_text wanted after limit k)) did.0.0 did.0.2))
+      found_by law back (task.List listing) o shown did finishes =
+          keeps_none (task.List listing) society c left refl
+          (inl (text_printed (λ k. Some (list_text listing k)) did.0.0 did.0.2))
       found_by law back (task.Show numbers) o shown did finishes =
           keeps_none (task.Show numbers) society c left refl
           (inl (text_printed (λ k. shown_text k numbers.items) did.0.0 did.0.2))

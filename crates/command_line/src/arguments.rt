@@ -229,6 +229,15 @@ pub(crate) const LIMIT: Word = Word {
     numbers: Some((1, MOST_NUMBER)),
 };
 
+/// The same of what is found.
+pub(crate) const FOUND_LIMIT: Word = Word {
+    id: "limit",
+    help: "So many records at most, 1 to 4294967295 [default: 1000]",
+    form: Form::Named("N"),
+    needed: false,
+    numbers: Some((1, MOST_NUMBER)),
+};
+
 pub(crate) const SEARCH: Word = Word {
     id: "WORD",
     help: "The words, or beginnings of them, that a name has to have",

@@ -7,9 +7,9 @@ ghost use Rattle.command_line.specs.Commands.{bare, program};
 ghost use Rattle.command_line.specs.Described.{rule_described, shape_described};
 
 use crate::arguments::{
-    AFTER, ALL, COUNT, FILE, FIRST_DAY, GENERATIONS, LAST_DAY, LIMIT, MAYBE_SOURCE, MAYBE_TODAY,
-    OPTION_KIND, PORT, PROGRESS, PUBLIC, RECORD, RECORD_KIND, RECORDS, SEARCH, SET, SHEET_KIND,
-    SOCIETY, SOURCE, TODAY, TOKEN, WORDS, Word, arg_of,
+    AFTER, ALL, COUNT, FILE, FIRST_DAY, FOUND_LIMIT, GENERATIONS, LAST_DAY, LIMIT, MAYBE_SOURCE,
+    MAYBE_TODAY, OPTION_KIND, PORT, PROGRESS, PUBLIC, RECORD, RECORD_KIND, RECORDS, SEARCH, SET,
+    SHEET_KIND, SOCIETY, SOURCE, TODAY, TOKEN, WORDS, Word, arg_of,
 };
 use crate::texts_finding::{
     FIND_ABOUT, FIND_EXAMPLE, LIST_ABOUT, LIST_EXAMPLE, SHOW_ABOUT, SHOW_EXAMPLE,
@@ -154,7 +154,7 @@ const FIND: CommandRow = CommandRow {
     name: "find",
     about: FIND_ABOUT,
     example: FIND_EXAMPLE,
-    words: &[FILE, SEARCH, OPTION_KIND, LIMIT],
+    words: &[FILE, SEARCH, OPTION_KIND, FOUND_LIMIT],
 };
 
 const SHOW: CommandRow = CommandRow {

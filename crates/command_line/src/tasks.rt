@@ -87,7 +87,7 @@ pub enum Asked<'a> {
         limit: Option<u32>,
     },
     /// `find`: the records, of a kind where one is given, of the archive in a file in one of whose names all words
-    /// occur, a line each, on standard output. There are so many at most; all where that was not given.
+    /// occur, a line each, on standard output. There are so many at most, 1,000 where that was not given.
     Find {
         file: &'a str,
         words: SearchWords,

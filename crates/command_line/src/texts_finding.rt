@@ -26,8 +26,9 @@ A record is found where one of its names has all words, each at the beginning of
 a word of it: names of persons, of those whom register entries mention, of places
 and repositories, and titles of sources. Case, marks and how letters are composed
 make no difference: muller finds Müller, neil O'Neil. A line is that of `list`,
-and so are the kinds of --kind. A WORD without letters and digits is refused. The
-living are not hidden: the archive is not changed, and nothing is for visitors.
+and so are the kinds of --kind. Where records are left out, a last line says how
+many: `and 37 more`. A WORD without letters and digits is refused. The living are
+not hidden: the archive is not changed, and nothing is for visitors.
 
 Refusals:
   40 BadStored     what is stored is no record: somebody else wrote FILE
@@ -44,8 +45,9 @@ pub(crate) const SHOW_ABOUT: &str = "Show records whole";
 
 pub(crate) const SHOW_EXAMPLE: &str = "\
 NO is the number of a record. Each is printed with all that it has, and with what
-names it. The living are not hidden: the archive is not changed, and nothing is
-for visitors.
+names it. The number that a merge was answered shows who was merged into whom, and
+the records that it changed as they were before. The living are not hidden: the
+archive is not changed, and nothing is for visitors.
 
 Refusals:
   50 NoSuch        a number names nothing

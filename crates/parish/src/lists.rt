@@ -4,9 +4,12 @@ ghost use Rattle.std.specs.Prelude.{◌≡◌};
 ghost use Rattle.parish.specs.Lists as lists;
 
 use command_line::RecordKind;
-use searching::{Kind, SearchWords, Wanted};
+use searching::{Kind, Listing, SearchWords, Wanted};
 use std::alloc::Global;
 use tasks::Task;
+
+/// The most lines that `find` prints without a limit: docs/FORMATS.md.
+const MOST_FOUND: u32 = 1000;
 
 /// `list`: the records of a kind after a number, of register entries those of a source where one is given.
 pub(crate) fn list_task(
@@ -18,18 +21,22 @@ pub(crate) fn list_task(
 ) -> Task
     ensures { result ≡ lists.list_task kind source after limit }
 {
+    let wanted = Wanted {
+        kind: Some(kind_of(kind)),
+        source,
+        words: SearchWords::new(alloc),
+    };
     Task::List {
-        wanted: Wanted {
-            kind: Some(kind_of(kind)),
-            source,
-            words: SearchWords::new(alloc),
+        listing: Listing {
+            wanted,
+            after,
+            limit: limit_of(limit),
+            counts_others: false,
         },
-        after,
-        limit: limit_of(limit),
     }
 }
 
-/// `find`: the records, of a kind where one is given, with a name in which the words occur.
+/// `find`: the records, of a kind where one is given, with a name in which the words occur, and how many are left out.
 pub(crate) fn find_task(words: SearchWords, kind: Option<RecordKind>, limit: Option<u32>) -> Task
     ensures { result ≡ lists.find_task words kind limit }
 {
@@ -37,14 +44,18 @@ pub(crate) fn find_task(words: SearchWords, kind: Option<RecordKind>, limit: Opt
         Some(kind) => Some(kind_of(kind)),
         None => None,
     };
+    let wanted = Wanted {
+        kind,
+        source: None,
+        words,
+    };
     Task::List {
-        wanted: Wanted {
-            kind,
-            source: None,
-            words,
+        listing: Listing {
+            wanted,
+            after: 0,
+            limit: limit.unwrap_or(MOST_FOUND) as usize,
+            counts_others: true,
         },
-        after: 0,
-        limit: limit_of(limit),
     }
 }
 

@@ -1,3 +1,4 @@
+pub mod Counted
 pub mod Folds
 pub mod Gathered
 pub mod Occurring

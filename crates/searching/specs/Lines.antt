@@ -1,5 +1,5 @@
 -- The line of a record in a list: rules of our own. It shows what stands in the record itself.
-use Rattle.std.specs.Prelude.{ℕ, List, [], ◌∷◌, ◌++◌, codes, decimal, if◌then◌else◌, nat_lt, take}
+use Rattle.std.specs.Prelude.{ℕ, List, [], ◌∷◌, ◌++◌, codes, decimal, drop, if◌then◌else◌, map, nat_lt, take}
 use Rattle.std.specs.List.{filter, flat_map}
 use Rattle.record_fields.specs.Words.{entry_kind_word, partnership_word}
 use Rattle.record_kinds.specs.Model as model
@@ -47,6 +47,18 @@ line_of w e = if is_wanted w e.1 then (e.0, line e.0 e.1) ∷ [] else []
 abbrev pub lines_of : Wanted → List (ℕ × Record) → List (ℕ × List ℕ)
 lines_of w es = flat_map (line_of w) es
 
--- the first of the lines of the records after a number, so many at the most
+-- the same of those after a number
+abbrev pub later : Wanted → ℕ → List (ℕ × Record) → List (ℕ × List ℕ)
+later w after es = lines_of w (filter (λ e. nat_lt after e.0) es)
+
+-- the first of these lines, so many at the most
 abbrev pub page : Wanted → ℕ → ℕ → List (ℕ × Record) → List (ℕ × List ℕ)
-page w after limit es = take limit (lines_of w (filter (λ e. nat_lt after e.0) es))
+page w after limit es = take limit (later w after es)
+
+-- the first of some lines, so many at the most, and the numbers of the others
+abbrev pub divided : ℕ → List (ℕ × List ℕ) → List (ℕ × List ℕ) × List ℕ
+divided limit ls = (take limit ls, map (λ l. l.0) (drop limit ls))
+
+-- a page, and the numbers of the records that are wanted after it
+abbrev pub page_and_others : Wanted → ℕ → ℕ → List (ℕ × Record) → List (ℕ × List ℕ) × List ℕ
+page_and_others w after limit es = divided limit (later w after es)

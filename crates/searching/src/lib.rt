@@ -2,8 +2,8 @@
 //!
 //! - `folding`, `laws`, `search`: the words of a text as a search compares them: without regard to case, to marks and
 //!   to how letters are composed.
-//! - `lines`, `printing`, `walking`, `wanted`: which records are listed and found, and the line of each: for whoever
-//!   keeps the archive, so nothing is masked.
+//! - `counting`, `lines`, `printing`, `walking`, `wanted`: which records are listed and found, and the line of each:
+//!   for whoever keeps the archive, so nothing is masked.
 //!
 //! Callers may rely on:
 //! - what a text is folded to depends on its NFKD alone, so a name is found composed or not; the words of a search
@@ -12,6 +12,7 @@
 //!   has a control character; nothing is changed.
 #![tactic(auto)]
 
+mod counting;
 mod folding;
 pub mod laws;
 mod lines;
@@ -20,8 +21,9 @@ mod search;
 mod walking;
 mod wanted;
 
+pub use counting::{Found, page_and_others};
 pub use lines::{Line, line_of};
 pub use printing::{shown, shown_character};
 pub use search::{SearchText, SearchWords};
 pub use walking::page;
-pub use wanted::{Kind, Wanted};
+pub use wanted::{Kind, Listing, Wanted};

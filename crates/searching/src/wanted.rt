@@ -37,6 +37,18 @@ pub struct Wanted {
     pub words: SearchWords,
 }
 
+/// What is listed.
+#[derive(Debug, Drop)]
+pub struct Listing {
+    pub wanted: Wanted,
+    /// Only records with a greater number than this.
+    pub after: u32,
+    /// So many at most.
+    pub limit: usize,
+    /// Whether a last line says how many more there are.
+    pub counts_others: bool,
+}
+
 /// Whether the record is wanted. Refused only for want of memory.
 pub(crate) fn is_wanted(alloc: Global, wanted: &Wanted, record: &Record) -> Result<bool, AllocError>
     ensures { IfOk result (λ b. b ≡ wants.is_wanted «wanted».now «record».now) }

@@ -1,3 +1,5 @@
 pub mod Fields
+pub mod Heads
 pub mod Named
 pub mod Shown
+pub mod Slips

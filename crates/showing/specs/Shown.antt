@@ -20,10 +20,12 @@ use Rattle.std.specs.FinMap.{get}
 use Rattle.record_kinds.specs.declared.record.Record.{Record}
 use Rattle.archive_state.specs.Content.{Content, Records}
 use Rattle.archive_state.specs.Referrers.{referrers}
-use Rattle.searching.specs.Lines as lines
+use Rattle.archive_state.specs.Slips.{Slip}
 use Rattle.searching.specs.Printing.{shown_character}
 use Rattle.showing.specs.Fields.{fields}
+use Rattle.showing.specs.Heads.{head}
 use Rattle.showing.specs.Named.{named}
+use Rattle.showing.specs.Slips.{slip_fields}
 
 -- each control character but LF, and each that turns the direction of a text, is a space
 abbrev pub shown_in_page : ℕ → ℕ
@@ -31,10 +33,6 @@ shown_in_page c = if c == 10 then 10 else shown_character c
 
 abbrev pub shown_page : List ℕ → List ℕ
 shown_page text = encode_utf8_all (map shown_in_page (chars text))
-
--- the line of a record
-abbrev pub head : ℕ → Record → List ℕ
-head n r = lines.line n r ++ codes "\n"
 
 -- a number with what stands there, after a word
 abbrev pub at_number : ℕ → Option Record → List ℕ
@@ -55,6 +53,16 @@ abbrev pub whole : Content → ℕ → Record → List ℕ
 whole c n r = head n r ++ (fields r ++ (flat_map (behind names_word c.records) (named r)
     ++ flat_map (behind named_by_word c.records) (referrers c n)))
 
--- the record of a number, where there is one
+-- what is kept of a merge: who was merged into whom, whether it was undone, the records that it changed as they were
+-- before, and the person that stays
+abbrev pub whole_slip : Content → ℕ → Slip → List ℕ
+whole_slip c n s = slip_fields n s ++ behind names_word c.records s.keep
+
+-- the record of a number, or else the slip
+abbrev pub shown_of : Content → ℕ → Option Record → Option Slip → Option (List ℕ)
+shown_of c n (Some r) slip = Some (shown_page (whole c n r))
+shown_of c n None slip = option_map (λ s. shown_page (whole_slip c n s)) slip
+
+-- what stands at a number, where something does
 abbrev pub shown_at : Content → ℕ → Option (List ℕ)
-shown_at c n = option_map (λ r. shown_page (whole c n r)) (get c.records n)
+shown_at c n = shown_of c n (get c.records n) (get c.slips n)

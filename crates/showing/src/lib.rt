@@ -14,6 +14,7 @@ mod fields;
 mod named;
 mod persons;
 mod showing;
+mod slips;
 mod sources;
 
 pub use showing::show;

@@ -7,22 +7,25 @@ ghost use Rattle.archive_state.specs.Referrers.{referrers};
 ghost use Rattle.archive_state.specs.Looks.{CountsFailures, Looked};
 ghost use Rattle.archive_state.specs.Views.{On};
 ghost use Rattle.showing.specs.Fields as fields;
+ghost use Rattle.showing.specs.Heads as heads;
 ghost use Rattle.showing.specs.Named as names;
 ghost use Rattle.showing.specs.Shown as shown;
+ghost use Rattle.showing.specs.Slips as slips;
 
 use crate::entries::{push_entry, push_other};
 use crate::events::push_event;
 use crate::named::named;
 use crate::persons::{push_family, push_person};
+use crate::slips::{push_head, push_slip};
 use crate::sources::{push_citation, push_place, push_repo, push_source};
-use archive_state::View;
+use archive_state::{Slip, View};
 use record_kinds::Record;
 use record_text::RefusalKind;
-use searching::{line_of, shown_character};
+use searching::shown_character;
 use std::alloc::{AllocError, Global};
 
-/// The record of a number, whole: its line, its fields, the records that they name, and those that name it. `None`: no
-/// record has the number. Nothing is changed.
+/// The record of a number, whole: its line, its fields, the records that they name, and those that name it; or the slip
+/// of a number. `None`: no record has the number, and no slip. Nothing is changed.
 pub fn show<V: View>(
     alloc: Global,
     view: &mut V,
@@ -36,7 +39,7 @@ pub fn show<V: View>(
     show_found(alloc, view, number, found)
 }
 
-/// The same of what stands at the number. The record is given back here.
+/// The same of the record that stands at the number, else of the slip. The record is given back here.
 fn show_found<V: View>(
     alloc: Global,
     view: &mut V,
@@ -44,13 +47,73 @@ fn show_found<V: View>(
     found: Option<Record>,
 ) -> Result<Option<String>, RefusalKind>
     ensures shows { On V.View view.old view.new (λ c. Looked result (λ text. option_map string_bytes text
-        ≡ option_map (λ r. shown.shown_page (shown.whole c number r)) found)) }
+        ≡ shown.shown_of c number found (map.get c.slips number))) }
+    ensures counts { CountsFailures (V.failed view.old) (V.failed view.new) result }
+{
+    match &found {
+        None => show_slip(alloc, view, number),
+        Some(record) => show_record(alloc, view, number, record),
+    }
+}
+
+fn show_slip<V: View>(
+    alloc: Global,
+    view: &mut V,
+    number: u32,
+) -> Result<Option<String>, RefusalKind>
+    ensures shows { On V.View view.old view.new (λ c. Looked result (λ text. option_map string_bytes text
+        ≡ option_map (λ s. shown.shown_page (shown.whole_slip c number s)) (map.get c.slips number))) }
+    ensures counts { CountsFailures (V.failed view.old) (V.failed view.new) result }
+{
+    let found = view.slip(alloc, number)?;
+    show_slip_found(alloc, view, number, found)
+}
+
+/// The slip is given back here.
+fn show_slip_found<V: View>(
+    alloc: Global,
+    view: &mut V,
+    number: u32,
+    found: Option<Slip>,
+) -> Result<Option<String>, RefusalKind>
+    ensures shows { On V.View view.old view.new (λ c. Looked result (λ text. option_map string_bytes text
+        ≡ option_map (λ s. shown.shown_page (shown.whole_slip c number s)) found)) }
     ensures counts { CountsFailures (V.failed view.old) (V.failed view.new) result }
 {
     match &found {
         None => Ok(None),
-        Some(record) => show_record(alloc, view, number, record),
+        Some(slip) => show_this_slip(alloc, view, number, slip),
     }
+}
+
+fn show_this_slip<V: View>(
+    alloc: Global,
+    view: &mut V,
+    number: u32,
+    slip: &Slip,
+) -> Result<Option<String>, RefusalKind>
+    ensures shows { On V.View view.old view.new (λ c. Looked result (λ text. option_map string_bytes text
+        ≡ Some (shown.shown_page (shown.whole_slip c number slip.now)))) }
+    ensures counts { CountsFailures (V.failed view.old) (V.failed view.new) result }
+{
+    let text = whole_slip(alloc, view, number, slip)?;
+    Ok(Some(shown_page(alloc, &text)?))
+}
+
+/// The whole text, before control characters are spaces.
+fn whole_slip<V: View>(
+    alloc: Global,
+    view: &mut V,
+    number: u32,
+    slip: &Slip,
+) -> Result<String, RefusalKind>
+    ensures shows { On V.View view.old view.new
+        (λ c. Looked result (λ s. string_bytes s ≡ shown.whole_slip c number slip.now)) }
+    ensures counts { CountsFailures (V.failed view.old) (V.failed view.new) result }
+{
+    let mut out = own_slip(alloc, number, slip)?;
+    push_at(alloc, view, &mut out, "names: ", slip.keep)?;
+    Ok(out)
 }
 
 fn show_record<V: View>(
@@ -152,22 +215,18 @@ fn push_found(
     }
 }
 
-fn push_head(
-    alloc: Global,
-    out: &mut String,
-    number: u32,
-    record: &Record,
-) -> Result<(), AllocError>
-    ensures { OnOk result (string_bytes out.new ≡ string_bytes out.old ++ shown.head number «record».now) }
+/// The line of a slip, its fields and what it changed.
+fn own_slip(alloc: Global, number: u32, slip: &Slip) -> Result<String, AllocError>
+    ensures { IfOk result (λ s. string_bytes s ≡ slips.slip_fields number slip.now) }
 {
-    let line = line_of(alloc, number, record)?;
-    out.push_str(&line)?;
-    out.push_str("\n")
+    let mut out = String::new(alloc);
+    push_slip(alloc, &mut out, number, slip)?;
+    Ok(out)
 }
 
 /// The line of a record, and its fields.
 fn own(alloc: Global, number: u32, record: &Record) -> Result<String, AllocError>
-    ensures { IfOk result (λ s. string_bytes s ≡ shown.head number «record».now ++ fields.fields «record».now) }
+    ensures { IfOk result (λ s. string_bytes s ≡ heads.head number «record».now ++ fields.fields «record».now) }
 {
     let mut out = String::new(alloc);
     push_head(alloc, &mut out, number, record)?;

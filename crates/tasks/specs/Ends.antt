@@ -260,8 +260,8 @@ module _ {S R W F : Type 0} (g : Ghosts S) (reader : read.Ghosts R) (reads : dev
   Does task.Audit outcome shown = Audits outcome × IsUnread × (shown ≡ None)
   Does (task.Days first last words) outcome shown = Ended outcome (ListsDays words first last) × IsUnread × IsQuiet
       × (shown ≡ None)
-  Does (task.List wanted after limit) outcome shown =
-      Ended outcome (PrintsText (λ c. Some (list_text wanted after limit c))) × IsUnread × IsQuiet × (shown ≡ None)
+  Does (task.List listing) outcome shown = Ended outcome (PrintsText (λ c. Some (list_text listing c))) × IsUnread
+      × IsQuiet × (shown ≡ None)
   Does (task.Show numbers) outcome shown = Ended outcome (PrintsText (λ c. shown_text c numbers.items)) × IsUnread
       × IsQuiet × (shown ≡ None)
 

@@ -114,14 +114,7 @@ fn do_task<S: Alter, C: Clock, R: Read + Device, W: Write + Device, F: Write + D
             plain(write_days(alloc, archive, first, last, words, output)),
             None,
         ),
-        Task::List {
-            wanted,
-            after,
-            limit,
-        } => (
-            plain(write_list(alloc, archive, &wanted, after, limit, output)),
-            None,
-        ),
+        Task::List { listing } => (plain(write_list(alloc, archive, &listing, output)), None),
         Task::Show { numbers } => (plain(write_shown(alloc, archive, &numbers, output)), None),
     }
 }

@@ -2,7 +2,7 @@
 
 use archive_output::Sheet;
 use receipts::Token;
-use searching::Wanted;
+use searching::Listing;
 
 /// What is asked of an archive that is open. Days are counted from 1970-01-01, day 0.
 #[derive(Debug, Drop)]
@@ -10,47 +10,24 @@ pub enum Task {
     /// The requests of the rows of the input, with their answers on the output.
     Apply,
     /// The rows of the input as register entries of a source, under a token, all of them or none.
-    Entries {
-        token: Token,
-        source: u32,
-    },
+    Entries { token: Token, source: u32 },
     /// The GEDCOM file of the input, whole or not at all, under a token. With `progress` the faults get how far it is.
-    Import {
-        token: Token,
-        progress: bool,
-    },
+    Import { token: Token, progress: bool },
     /// The whole archive as a GEDCOM file, on the output.
     Export,
     /// What may be shown of the archive on a day as a GEDCOM file, on the output.
-    ExportPublic {
-        today: i32,
-    },
+    ExportPublic { today: i32 },
     /// A sheet of what may be shown of the archive on a day, on the output.
-    Sheet {
-        sheet: Sheet,
-        today: i32,
-    },
+    Sheet { sheet: Sheet, today: i32 },
     /// What may be shown of the archive on a day, with its index, as a reading room has it.
-    Library {
-        today: i32,
-    },
+    Library { today: i32 },
     /// Whether the archive is sound, and how many records it has, on the output.
     Audit,
     /// The events and register entries whose date may mean a day from the first to the last, on the output: their
     /// numbers, and with `words` what each is.
-    Days {
-        first: i32,
-        last: i32,
-        words: bool,
-    },
-    /// The lines of the first so many records after a number that are wanted, on the output.
-    List {
-        wanted: Wanted,
-        after: u32,
-        limit: usize,
-    },
+    Days { first: i32, last: i32, words: bool },
+    /// The lines of a listing, on the output.
+    List { listing: Listing },
     /// The records of these numbers, each whole, on the output.
-    Show {
-        numbers: Vec<u32>,
-    },
+    Show { numbers: Vec<u32> },
 }
