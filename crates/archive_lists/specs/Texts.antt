@@ -18,7 +18,6 @@ use Rattle.std.specs.Prelude.{
 use Rattle.std.specs.List.{flat_map}
 use Rattle.std.specs.FinMap.{entries}
 use Rattle.archive_state.specs.Content.{Content}
-use Rattle.record_kinds.specs.declared.record.Record.{Record}
 use Rattle.searching.specs.Lines.{page, page_and_others}
 use Rattle.searching.specs.declared.wanted.Listing.{Listing}
 use Rattle.showing.specs.Shown.{shown_at}
@@ -36,14 +35,10 @@ abbrev pub counted_text : List (ℕ × List ℕ) × List ℕ → List ℕ
 counted_text found = flat_map ended found.0 ++ more_text (length found.1)
 
 -- the lines of the first so many records after a number that are wanted; where it is asked for, how many more there are
-abbrev pub text_of : Listing → List (ℕ × Record) → List ℕ
-text_of l es =
-    if l.counts_others then counted_text (page_and_others l.wanted l.after l.limit es)
-    else flat_map ended (page l.wanted l.after l.limit es)
-
--- the same of all records
 abbrev pub list_text : Listing → Content → List ℕ
-list_text l c = text_of l (entries c.records)
+list_text l c =
+    if l.counts_others then counted_text (page_and_others l.wanted l.after l.limit (entries c.records))
+    else flat_map ended (page l.wanted l.after l.limit (entries c.records))
 
 -- a text below what stands there, with a blank line between
 abbrev pub below : List ℕ → List ℕ → List ℕ

@@ -55,7 +55,7 @@ pub fn write_list<S: Alter, W: Write + Device>(
 /// Writes the records of these numbers, each whole, with a blank line between two. The archive is not changed; an
 /// import that is open stays open, and nothing of it is written.
 ///
-/// 50: one of the numbers is of no record. 80: the database failed, and the archive has to be opened again. 40:
+/// 50: a number is of no record and no slip. 80: the database failed, and the archive has to be opened again. 40:
 /// somebody else has spoilt what is stored. At these nothing is written. 95: the output failed. 1: memory was refused.
 /// At these a beginning of the text may have been written.
 pub fn write_shown<S: Alter, W: Write + Device>(
