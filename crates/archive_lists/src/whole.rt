@@ -11,7 +11,8 @@ use record_text::RefusalKind;
 use showing::show;
 use std::alloc::{AllocError, Global};
 
-/// The records of these numbers, each whole, with a blank line between two. `None`: one of them is of no record and no slip.
+/// The records and slips of these numbers, each whole, with a blank line between two. `None`: one of the numbers is of
+/// neither.
 #[tactic(auto, using(crate::proofs::Shown::one_more, crate::proofs::Shown::all_shown))]
 pub(crate) fn shown_text<V: View>(
     alloc: Global,
