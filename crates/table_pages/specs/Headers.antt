@@ -54,7 +54,7 @@ use Rattle.table_pages.specs.declared.fault.FaultKind.TheVariants.{UnknownColumn
 use Rattle.table_pages.specs.declared.fault.PageFault.{PageFault}
 
 -- ---- names
--- space, tab, LF, the bytes of U+00A0, `-` and `_`; in other characters of names that are known these bytes do not occur
+-- space, tab, LF, the bytes of U+00A0, `-` and `_`: no other character of a name that is known has these bytes
 abbrev pub is_parting : ℕ → Bool
 is_parting b = b == 32 || b == 9 || b == 10 || b == 194 || b == 160 || b == 45 || b == 95
 

@@ -1,6 +1,28 @@
 -- The sheet that bytes in UTF-8 are, or its first fault.
-use Rattle.std.specs.Prelude.{ℕ, ◌+◌, ◌==◌, Bool, false, List, [], ◌∷◌, ◌++◌, length, codes, Option, Some, None, Result, Ok, Err, if◌then◌else◌}
+use Rattle.std.specs.Prelude.{
+  ℕ,
+  ◌+◌,
+  ◌==◌,
+  Bool,
+  false,
+  List,
+  [],
+  ◌∷◌,
+  ◌++◌,
+  length,
+  take,
+  codes,
+  Option,
+  Some,
+  None,
+  Result,
+  Ok,
+  Err,
+  if◌then◌else◌,
+}
 use Rattle.std.specs.List.{list_all}
+use Rattle.std.specs.Str.{is_utf8}
+use Rattle.std.specs.Str.Lossy.{utf8_valid_len}
 use Rattle.table_pages.specs.Cells.{Row, is_open, rows_of}
 use Rattle.table_pages.specs.Faults.{fault}
 use Rattle.table_pages.specs.Headers.{columns_from, header_fault, missing}
@@ -73,8 +95,17 @@ abbrev pub sheet_of_rows : Bool → List Row → Result Sheet PageFault
 sheet_of_rows unclosed [] = Err (header_fault MissingColumn (codes "kind"))
 sheet_of_rows unclosed (header ∷ rows) = with_names unclosed rows (row_texts header)
 
+-- how many bytes are before the first that is not UTF-8
+abbrev pub first_stray : List ℕ → Option ℕ
+first_stray lines = if is_utf8 lines then None else Some (utf8_valid_len lines)
+
+abbrev pub unless_stray : ℕ → List ℕ → Option ℕ → Result Sheet PageFault
+unless_stray separator lines None = sheet_of_rows (is_open separator lines) (rows_of separator lines)
+unless_stray separator lines (Some n) = Err (row_fault (length (rows_of separator (take n lines))) NotUtf8)
+
+-- lines that are not UTF-8 are refused at the row that the first byte at fault is in
 abbrev pub sheet_of_lines : ℕ → List ℕ → Result Sheet PageFault
-sheet_of_lines separator lines = sheet_of_rows (is_open separator lines) (rows_of separator lines)
+sheet_of_lines separator lines = unless_stray separator lines (first_stray lines)
 
 -- the sheet of bytes
 unfoldable pub sheet_of : List ℕ → Result Sheet PageFault

@@ -1,6 +1,20 @@
 //! The header of a page: which column each of its cells names.
 
-ghost use Rattle.std.specs.Prelude.{◌≡◌, ◌≤◌, [], IfOk, MatchOption, MatchResult, None, Ok, Err, Some, false, length, string_bytes};
+ghost use Rattle.std.specs.Prelude.{
+  ◌≡◌,
+  ◌≤◌,
+  [],
+  IfOk,
+  MatchOption,
+  MatchResult,
+  None,
+  Ok,
+  Err,
+  Some,
+  false,
+  length,
+  string_bytes,
+};
 ghost use Rattle.table_pages.specs.Headers as headers;
 
 use crate::columns::{Column, stands_in};

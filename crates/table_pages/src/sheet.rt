@@ -1,6 +1,7 @@
 //! A sheet: its columns and its rows.
 
-ghost use Rattle.std.specs.Prelude.{◌≡◌, [], ◌++◌, IfOk, MatchResult, Err, Ok, OnOk};
+ghost use Rattle.std.specs.Prelude.{◌≡◌, [], ◌++◌, ◌≤◌, IfOk, IfSome, MatchResult, Err, Ok, OnOk, length};
+ghost use Rattle.table_pages.specs.Cells.{rows_of};
 ghost use Rattle.table_pages.specs.Sheets as sheets;
 
 use crate::cells::{ReadRows, RowBytes, read_rows};
@@ -61,17 +62,55 @@ impl Sheet {
     }
 }
 
-/// Reads a sheet in UTF-8. Refused are, in this order: a cell that is not UTF-8, with its row; a quote that is not
-/// closed, with the row where it began; the first column that is not known or stands twice; and a column that is
-/// missing. Refused only for want of memory otherwise.
+/// Reads a sheet in UTF-8. Refused are, in this order: the first byte that is not UTF-8, with its row; a quote that is
+/// not closed, with the row where it began; the first column that is not known or stands twice; and a column that is
+/// missing.
 #[tactic(auto, unfolding(crate::specs::Sheets::sheet_of))]
 pub fn read_sheet(alloc: Global, bytes: &[u8]) -> Result<Result<Sheet, PageFault>, AllocError>
     ensures { IfOk result (λ r. r ≡ sheets.sheet_of bytes.now) }
 {
     let lines = line_feeds(alloc, without_mark(bytes))?;
     let (separator, rest) = separator(&lines);
-    let ReadRows { rows, is_open } = read_rows(alloc, separator, rest)?;
-    sheet_of_rows(alloc, &rows, is_open)
+    sheet_of_lines(alloc, separator, rest)
+}
+
+/// The sheet of lines whose cells are parted so.
+fn sheet_of_lines(
+    alloc: Global,
+    separator: u8,
+    lines: &[u8],
+) -> Result<Result<Sheet, PageFault>, AllocError>
+    ensures { IfOk result (λ r. r ≡ sheets.sheet_of_lines separator lines.now) }
+{
+    match first_stray(lines) {
+        Some(at) => {
+            let row = count_rows(alloc, separator, &lines[..at])?;
+            Ok(Err(row_fault(alloc, row, FaultKind::NotUtf8)))
+        }
+        None => {
+            let ReadRows { rows, is_open } = read_rows(alloc, separator, lines)?;
+            sheet_of_rows(alloc, &rows, is_open)
+        }
+    }
+}
+
+/// How many bytes are before the first that is not UTF-8. `None`: all are.
+fn first_stray(lines: &[u8]) -> Option<usize>
+    ensures first { result ≡ sheets.first_stray lines.now }
+    ensures within { IfSome result (λ n. n ≤ length lines.now) }
+{
+    match str::from_utf8(lines) {
+        Ok(_) => None,
+        Err(e) => Some(e.valid_up_to()),
+    }
+}
+
+/// How many rows lines begin.
+fn count_rows(alloc: Global, separator: u8, lines: &[u8]) -> Result<usize, AllocError>
+    ensures { IfOk result (λ n. n ≡ length (rows_of separator lines.now)) }
+{
+    let ReadRows { rows, is_open: _ } = read_rows(alloc, separator, lines)?;
+    Ok(rows.len())
 }
 
 /// The sheet of these rows, of which the last has an open quote, or has none.
