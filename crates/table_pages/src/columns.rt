@@ -24,7 +24,7 @@ pub enum Column {
 
 impl Column {
     /// A number of its own for each column that stands once; 0 for the others.
-    fn code(self) -> u32
+    pub fn code(self) -> u32
         ensures { result ≡ known.column_code self }
     {
         match self {
