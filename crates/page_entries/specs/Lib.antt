@@ -1,0 +1,7 @@
+pub mod Checks
+pub mod Dates
+pub mod Digits
+pub mod Entries
+pub mod Months
+pub mod Places
+pub mod Under

@@ -1,0 +1,9 @@
+pub mod Blanks
+pub mod Cells
+pub mod Columns
+pub mod Faults
+pub mod Headers
+pub mod LineEnds
+pub mod Separators
+pub mod Sheets
+pub mod Texts
