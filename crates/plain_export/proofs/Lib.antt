@@ -1,0 +1,3 @@
+pub mod Trimming
+pub mod Among
+pub mod Whole

@@ -1,0 +1,5 @@
+pub mod Kept
+pub mod Words
+pub mod Added
+pub mod Plain
+pub mod Made
