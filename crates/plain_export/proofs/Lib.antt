@@ -1,3 +1,4 @@
 pub mod Trimming
 pub mod Among
 pub mod Whole
+pub mod Marking

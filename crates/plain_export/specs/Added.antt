@@ -1,24 +1,7 @@
 -- What a record adds to other records in a plain export: an event who took part, and a register entry where it is
 -- cited. Lines of the standard in place of our own (The GEDCOM Standard Release 5.5.1, chapter 2,
 -- ASSOCIATION_STRUCTURE, NOTE_STRUCTURE and SOURCE_CITATION).
-use Rattle.std.specs.Prelude.{
-  ℕ,
-  ◌==◌,
-  Bool,
-  true,
-  false,
-  if◌then◌else◌,
-  List,
-  [],
-  ◌∷◌,
-  ◌++◌,
-  map,
-  fold,
-  codes,
-  Option,
-  Some,
-  None,
-}
+use Rattle.std.specs.Prelude.{ℕ, ◌==◌, Bool, true, if◌then◌else◌, List, [], ◌∷◌, ◌++◌, map, fold, codes, Option, Some, None, option_map}
 use Rattle.std.specs.List.{filter, flat_map, list_any}
 use Rattle.std.specs.FinMap.{get, keys}
 use Rattle.stored_lines.specs.Tree.{Tree}
@@ -31,6 +14,7 @@ use Rattle.record_kinds.specs.declared.record.Record.TheVariants as kind
 use Rattle.record_shapes.specs.Shapes.{Around, line, pointer_line, text_line}
 use Rattle.sheet_lines.specs.Words.{display_of}
 use Rattle.archive_state.specs.Content.{Records}
+use Rattle.plain_export.specs.Firsts.{Firsts, cited_by, firsts, persons_of}
 use Rattle.plain_export.specs.Kept.{kept}
 use Rattle.plain_export.specs.Words.{
   entry_words,
@@ -41,6 +25,7 @@ use Rattle.plain_export.specs.Words.{
   with_words,
 }
 use Rattle.plain_export.specs.declared.added.Added.{Added}
+use Rattle.plain_export.specs.declared.noted.Noted.{Noted}
 
 abbrev pub add : ℕ → Tree Line → Added
 add n t = record { number = n; line = t }
@@ -63,12 +48,6 @@ below_association m e p =
 abbrev pub association : Records → model.Event → model.Participant → Tree Line
 association m e p = pointer_line (codes "ASSO") p.person (below_association m e p)
 
--- whose event it is: a person's own, and that of each partner of a family
-abbrev pub persons_of : ℕ → Option Record → List ℕ
-persons_of n (Some (kind.Person p)) = n ∷ []
-persons_of n (Some (kind.Family f)) = map (λ (p : model.Partner). p.person) f.partners
-persons_of n _ = []
-
 abbrev pub associations : Records → model.Event → ℕ → List Added
 associations m e n = map (λ p. add n (association m e p)) e.participants
 
@@ -77,24 +56,31 @@ added_by_event m n e = map (λ p. add n (note_of m p)) e.participants
     ++ flat_map (associations m e) (persons_of e.owner (get m e.owner))
 
 -- ---- register entries
--- the persons whom mentions are linked to, each once, in the order of the mentions
+-- a mention in words, and what cites its entry for it, if it is linked
+abbrev pub noted_of : Firsts → model.Entry → model.Mention → Noted
+noted_of f e x = record { at = option_map (cited_by f e.date x.role) x.link; words = mention_words x }
+
+abbrev pub noted : Firsts → model.Entry → List Noted
+noted f e = map (noted_of f e) e.mentions
+
+-- what cites an entry, each once, in the order of the mentions
 abbrev pub with_number : List ℕ → ℕ → List ℕ
 with_number ns n = if list_any (λ k. k == n) ns then ns else ns ++ n ∷ []
 
-abbrev pub with_link : List ℕ → Option model.Link → List ℕ
-with_link ns None = ns
-with_link ns (Some l) = with_number ns l.person
+abbrev pub with_place : List ℕ → Option ℕ → List ℕ
+with_place ns None = ns
+with_place ns (Some n) = with_number ns n
 
-abbrev pub linked : model.Entry → List ℕ
-linked e = fold (λ ns (x : model.Mention). with_link ns x.link) [] e.mentions
+abbrev pub cited : List Noted → List ℕ
+cited xs = fold (λ ns (x : Noted). with_place ns x.at) [] xs
 
--- a citation speaks of the mentions that are linked to its person, and of those that are linked to nobody
-abbrev pub is_of : ℕ → Option model.Link → Bool
+-- a citation speaks of the mentions for which it is made, and of those that are linked to nobody
+abbrev pub is_of : ℕ → Option ℕ → Bool
 is_of n None = true
-is_of n (Some l) = l.person == n
+is_of n (Some k) = k == n
 
-abbrev pub mention_note : model.Mention → Tree Line
-mention_note x = text_line (codes "NOTE") (mention_words x)
+abbrev pub note_line : Noted → Tree Line
+note_line x = text_line (codes "NOTE") x.words
 
 -- the date and the text of an entry; an empty text has no line
 abbrev pub date_lines : Option Date → Lines
@@ -116,16 +102,16 @@ data_of (t ∷ ts) = line (codes "DATA") (value.Text []) (t ∷ ts) ∷ []
 abbrev pub data_lines : model.Entry → Lines
 data_lines e = data_of (below_data e)
 
--- the citation of an entry, below a person: the page, the data, and a note for each mention that it speaks of
-abbrev pub below_citation : model.Entry → ℕ → Lines
-below_citation e n = text_line (codes "PAGE") (page_words e) ∷ (data_lines e
-    ++ map mention_note (filter (λ (x : model.Mention). is_of n x.link) e.mentions))
+-- the citation of an entry: the page, the data, and a note for each mention that it speaks of
+abbrev pub below_citation : model.Entry → List Noted → ℕ → Lines
+below_citation e xs n = text_line (codes "PAGE") (page_words e) ∷ (data_lines e
+    ++ map note_line (filter (λ (x : Noted). is_of n x.at) xs))
 
-abbrev pub citation : model.Entry → ℕ → Tree Line
-citation e n = pointer_line (codes "SOUR") e.source (below_citation e n)
+abbrev pub citation : model.Entry → List Noted → ℕ → Tree Line
+citation e xs n = pointer_line (codes "SOUR") e.source (below_citation e xs n)
 
-abbrev pub citations : model.Entry → List ℕ → List Added
-citations e ns = map (λ n. add n (citation e n)) ns
+abbrev pub citations : model.Entry → List Noted → List ℕ → List Added
+citations e xs ns = map (λ n. add n (citation e xs n)) ns
 
 -- the path of the place of an entry; nothing without a place
 abbrev pub path_of : Around → Option ℕ → List ℕ
@@ -136,23 +122,26 @@ path_of a (Some n) = a.path n
 abbrev pub entry_note : Around → model.Entry → Tree Line
 entry_note a e = text_line (codes "NOTE") (entry_words (path_of a e.place) e)
 
--- an entry is cited by each person whom it is linked to, and is a note of its source where there is none
-abbrev pub cited_or_noted : Around → model.Entry → List ℕ → List Added
-cited_or_noted a e [] = add e.source (entry_note a e) ∷ []
-cited_or_noted a e (n ∷ ns) = citations e (n ∷ ns)
+-- an entry is cited by each of these, and is a note of its source where there is none
+abbrev pub cited_or_noted : Around → model.Entry → List Noted → List ℕ → List Added
+cited_or_noted a e xs [] = add e.source (entry_note a e) ∷ []
+cited_or_noted a e xs (n ∷ ns) = citations e xs (n ∷ ns)
+
+abbrev pub added_by_entry : Around → Firsts → model.Entry → List Added
+added_by_entry a f e = cited_or_noted a e (noted f e) (cited (noted f e))
 
 -- ---- all records
-abbrev pub added_by : Records → Around → ℕ → Option Record → List Added
-added_by m a n (Some (kind.Event e)) = added_by_event m n e
-added_by m a n (Some (kind.Entry e)) = cited_or_noted a e (linked e)
-added_by m a n _ = []
+abbrev pub added_by : Records → Around → Firsts → ℕ → Option Record → List Added
+added_by m a f n (Some (kind.Event e)) = added_by_event m n e
+added_by m a f n (Some (kind.Entry e)) = added_by_entry a f e
+added_by m a f n _ = []
 
-abbrev pub added_at : Records → Around → ℕ → List Added
-added_at m a n = added_by m a n (get m n)
+abbrev pub added_at : Records → Around → Firsts → ℕ → List Added
+added_at m a f n = added_by m a f n (get m n)
 
 -- what all records add, by number
 abbrev pub added : Records → Around → List Added
-added m a = flat_map (added_at m a) (keys m)
+added m a = flat_map (added_at m a (firsts m)) (keys m)
 
 -- what is added to a record
 abbrev pub lines_of : ℕ → List Added → Lines

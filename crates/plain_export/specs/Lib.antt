@@ -1,5 +1,6 @@
 pub mod Kept
 pub mod Words
+pub mod Firsts
 pub mod Added
 pub mod Plain
 pub mod Made

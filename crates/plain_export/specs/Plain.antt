@@ -1,25 +1,7 @@
 -- The plain archive: what an archive is without what the standard has no words for. The plain export of an archive is
 -- the export of its plain archive, so its header, the order of its records and their cross references are those of
 -- any export (The GEDCOM Standard Release 5.5.1, chapter 2, LINEAGE_LINKED_GEDCOM). Rules of our own.
-use Rattle.std.specs.Prelude.{
-  ℕ,
-  ◌≡◌,
-  Bool,
-  true,
-  false,
-  not,
-  if◌then◌else◌,
-  List,
-  [],
-  ◌∷◌,
-  ◌++◌,
-  map,
-  codes,
-  Option,
-  Some,
-  None,
-  option_map,
-}
+use Rattle.std.specs.Prelude.{ℕ, ◌≡◌, Bool, not, if◌then◌else◌, [], ◌++◌, map, codes, Option, Some, None, option_map}
 use Rattle.std.specs.List.{filter}
 use Rattle.std.specs.Str.{bytes_eq}
 use Rattle.std.specs.FinMap.{get}

@@ -1,87 +1,24 @@
 //! What a register entry adds: citations, or a note.
 
-ghost use Rattle.std.specs.Prelude.{◌≡◌, ◌==◌, ◌++◌, ◌∷◌, [], IfOk, OnOk, map, string_bytes};
-ghost use Rattle.std.specs.List.{filter, list_any};
-ghost use Rattle.record_kinds.specs.Model as model;
+ghost use Rattle.std.specs.Prelude.{◌≡◌, ◌++◌, ◌∷◌, [], IfOk, OnOk, map, string_bytes};
+ghost use Rattle.std.specs.BTreeMap.{get_by_text};
+ghost use Rattle.std.specs.List.{filter};
 ghost use Rattle.gedcom_export.specs.Shown.{around_in};
 ghost use Rattle.plain_export.specs.Added as adding;
+ghost use Rattle.plain_export.specs.declared.noted.Noted as declared;
 
 use crate::added::{Added, add};
+use crate::firsts::Firsts;
 use crate::lines::{line, put_line, words_line};
-use crate::words::{entry_words, mention_words, page_words};
+use crate::noted::{Noted, cited, is_of, note_line, noted_all};
+use crate::words::{entry_words, page_words};
 use gedcom_export::Index;
 use node_writing::Named;
 use record_fields::Date;
-use record_kinds::{Entry, Link, Mention};
+use record_kinds::Entry;
 use record_text::{RefusalKind, Text};
 use std::alloc::{AllocError, Global};
 use stored_lines::{Carried, Value};
-
-/// Puts a number last, if it is not there.
-fn put_number(numbers: &mut Vec<u32>, number: u32) -> Result<(), AllocError>
-    ensures { OnOk result (numbers.new.items ≡ adding.with_number numbers.old.items number) }
-{
-    if !has_number(numbers, number) {
-        numbers.push(number)?;
-    }
-    Ok(())
-}
-
-fn has_number(numbers: &[u32], number: u32) -> bool
-    ensures { result ≡ list_any (λ k. k == number) numbers.now }
-{
-    numbers.iter().any(|k| *k == number)
-}
-
-/// Puts the person of a link last, if it is not there.
-fn put_link(numbers: &mut Vec<u32>, link: &Option<Link>) -> Result<(), AllocError>
-    ensures { OnOk result (numbers.new.items ≡ adding.with_link numbers.old.items link.now) }
-{
-    match link {
-        None => Ok(()),
-        Some(link) => put_number(numbers, link.person),
-    }
-}
-
-/// The persons whom mentions are linked to, each once.
-fn linked(alloc: Global, entry: &Entry) -> Result<Vec<u32>, AllocError>
-    ensures { IfOk result (λ ns. ns.items ≡ adding.linked entry.now) }
-{
-    let mut numbers = Vec::new(alloc);
-    'mentions: for mention in &entry.mentions {
-        put_link(&mut numbers, &mention.link)?;
-    }
-    Ok(numbers)
-}
-
-/// Whether a citation of a person speaks of a mention with that link.
-fn is_of(link: &Option<Link>, person: u32) -> bool
-    ensures { result ≡ adding.is_of person link.now }
-{
-    match link {
-        None => true,
-        Some(link) => link.person == person,
-    }
-}
-
-/// Puts the notes of a citation.
-fn put_notes(
-    alloc: Global,
-    mentions: &[Mention],
-    person: u32,
-    below: &mut Vec<Carried>,
-) -> Result<(), RefusalKind>
-    ensures { OnOk result (below.new.items ≡ below.old.items ++ map adding.mention_note
-        (filter (λ (x : model.Mention). adding.is_of person x.link) mentions.now)) }
-{
-    'mentions: for mention in mentions {
-        if is_of(&mention.link, person) {
-            let note = words_line(alloc, "NOTE", mention_words(alloc, mention)?)?;
-            put_line(below, note)?;
-        }
-    }
-    Ok(())
-}
 
 /// Puts the line of a date, where there is one.
 fn put_date(alloc: Global, date: &Option<Date>, below: &mut Vec<Carried>) -> Result<(), RefusalKind>
@@ -129,37 +66,67 @@ fn put_data(alloc: Global, entry: &Entry, below: &mut Vec<Carried>) -> Result<()
     Ok(())
 }
 
-/// What stands below the citation of an entry by a person.
-fn below_citation(alloc: Global, entry: &Entry, person: u32) -> Result<Vec<Carried>, RefusalKind>
-    ensures { IfOk result (λ made. made.items ≡ adding.below_citation entry.now person) }
+/// Puts the notes of a citation.
+fn put_notes(
+    alloc: Global,
+    noted: &[Noted],
+    number: u32,
+    below: &mut Vec<Carried>,
+) -> Result<(), RefusalKind>
+    ensures { OnOk result (below.new.items ≡ below.old.items ++ map adding.note_line
+        (filter (λ (x : declared.Noted). adding.is_of number x.at) noted.now)) }
+{
+    'noted: for x in noted {
+        if is_of(x.at, number) {
+            put_line(below, note_line(alloc, x)?)?;
+        }
+    }
+    Ok(())
+}
+
+/// What stands below the citation of an entry by a person or an event.
+fn below_citation(
+    alloc: Global,
+    entry: &Entry,
+    noted: &[Noted],
+    number: u32,
+) -> Result<Vec<Carried>, RefusalKind>
+    ensures { IfOk result (λ made. made.items ≡ adding.below_citation entry.now noted.now number) }
 {
     let mut below = Vec::new(alloc);
     let page = words_line(alloc, "PAGE", page_words(alloc, entry)?)?;
     put_line(&mut below, page)?;
     put_data(alloc, entry, &mut below)?;
-    put_notes(alloc, &entry.mentions, person, &mut below)?;
+    put_notes(alloc, noted, number, &mut below)?;
     Ok(below)
 }
 
-/// The citation of an entry by a person.
-fn citation(alloc: Global, entry: &Entry, person: u32) -> Result<Carried, RefusalKind>
-    ensures { IfOk result (λ c. c ≡ adding.citation entry.now person) }
+/// The citation of an entry by a person or an event.
+fn citation(
+    alloc: Global,
+    entry: &Entry,
+    noted: &[Noted],
+    number: u32,
+) -> Result<Carried, RefusalKind>
+    ensures { IfOk result (λ c. c ≡ adding.citation entry.now noted.now number) }
 {
-    let below = below_citation(alloc, entry, person)?;
+    let below = below_citation(alloc, entry, noted, number)?;
     line(alloc, "SOUR", Value::Ref(entry.source), below)
 }
 
-/// Adds the citations of an entry by these persons.
+/// Adds the citations of an entry by these persons and events.
 fn add_citations(
     alloc: Global,
     entry: &Entry,
-    persons: &[u32],
+    noted: &[Noted],
+    numbers: &[u32],
     added: &mut Vec<Added>,
 ) -> Result<(), RefusalKind>
-    ensures { OnOk result (added.new.items ≡ added.old.items ++ adding.citations entry.now persons.now) }
+    ensures { OnOk result (added.new.items ≡ added.old.items
+        ++ adding.citations entry.now noted.now numbers.now) }
 {
-    'persons: for person in persons {
-        add(added, *person, citation(alloc, entry, *person)?)?;
+    'numbers: for number in numbers {
+        add(added, *number, citation(alloc, entry, noted, *number)?)?;
     }
     Ok(())
 }
@@ -186,16 +153,32 @@ fn entry_note(alloc: Global, index: &Index, entry: &Entry) -> Result<Carried, Re
 pub(crate) fn add_entry(
     alloc: Global,
     index: &Index,
+    firsts: &Firsts,
     entry: &Entry,
     added: &mut Vec<Added>,
 ) -> Result<(), RefusalKind>
     ensures { OnOk result (added.new.items ≡ added.old.items
-        ++ adding.cited_or_noted (around_in index.now) entry.now (adding.linked entry.now)) }
+        ++ adding.added_by_entry (around_in index.now) (get_by_text firsts.now.numbers) entry.now) }
 {
-    let persons = linked(alloc, entry)?;
-    if persons.is_empty() {
+    let noted = noted_all(alloc, firsts, entry)?;
+    let numbers = cited(alloc, &noted)?;
+    add_cited(alloc, index, entry, &noted, &numbers, added)
+}
+
+fn add_cited(
+    alloc: Global,
+    index: &Index,
+    entry: &Entry,
+    noted: &[Noted],
+    numbers: &[u32],
+    added: &mut Vec<Added>,
+) -> Result<(), RefusalKind>
+    ensures { OnOk result (added.new.items ≡ added.old.items
+        ++ adding.cited_or_noted (around_in index.now) entry.now noted.now numbers.now) }
+{
+    if numbers.is_empty() {
         let note = entry_note(alloc, index, entry)?;
         return Ok(add(added, entry.source, note)?);
     }
-    add_citations(alloc, entry, &persons, added)
+    add_citations(alloc, entry, noted, numbers, added)
 }

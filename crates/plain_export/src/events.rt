@@ -4,6 +4,7 @@ ghost use Rattle.std.specs.Prelude.{◌≡◌, ◌++◌, IfOk, OnOk, map, option
 ghost use Rattle.std.specs.List.{flat_map};
 ghost use Rattle.record_kinds.specs.Model as model;
 ghost use Rattle.plain_export.specs.Added as adding;
+ghost use Rattle.plain_export.specs.Firsts.{persons_of};
 
 use crate::added::{Added, add};
 use crate::kept::kept_lines;
@@ -134,7 +135,7 @@ fn add_to_owner(
 ) -> Result<(), RefusalKind>
     ensures { OnOk result (added.new.items ≡ added.old.items
         ++ flat_map (adding.associations state.now.records event.now)
-        (adding.persons_of event.now.owner (option_copied owner.entry))) }
+        (persons_of event.now.owner (option_copied owner.entry))) }
 {
     match owner {
         Some(Record::Person(_)) => add_associations(alloc, state, event, event.owner, added),

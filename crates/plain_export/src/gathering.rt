@@ -1,6 +1,7 @@
 //! What all records add, gathered in one pass.
 
 ghost use Rattle.std.specs.Prelude.{◌≡◌, ◌++◌, IfOk, OnOk, Some, option_copied};
+ghost use Rattle.std.specs.BTreeMap.{get_by_text};
 ghost use Rattle.std.specs.List.Sorted.{IsNonDecreasingBy};
 ghost use Rattle.gedcom_export.specs.Owned.{IsArrangedBy};
 ghost use Rattle.gedcom_export.specs.Shown.{around_in};
@@ -10,6 +11,7 @@ ghost use Rattle.plain_export.specs.declared.added.Added as declared;
 use crate::added::{Added, sort_added};
 use crate::entries::add_entry;
 use crate::events::add_event;
+use crate::firsts::{Firsts, firsts_of};
 use archive_state::State;
 use gedcom_export::Index;
 use record_kinds::Record;
@@ -34,10 +36,11 @@ pub(crate) fn arranged(
 fn gathered(alloc: Global, state: &State, index: &Index) -> Result<Vec<Added>, RefusalKind>
     ensures { IfOk result (λ made. made.items ≡ adding.added state.now.records (around_in index.now)) }
 {
+    let firsts = firsts_of(alloc, state)?;
     let numbers = state.record_numbers(alloc)?;
     let mut made = Vec::new(alloc);
     'numbers: for number in &numbers {
-        add_found(alloc, state, index, *number, &mut made)?;
+        add_found(alloc, state, index, &firsts, *number, &mut made)?;
     }
     Ok(made)
 }
@@ -47,14 +50,15 @@ fn add_found(
     alloc: Global,
     state: &State,
     index: &Index,
+    firsts: &Firsts,
     number: u32,
     made: &mut Vec<Added>,
 ) -> Result<(), RefusalKind>
     ensures { OnOk result (made.new.items ≡ made.old.items
-        ++ adding.added_at state.now.records (around_in index.now) number) }
+        ++ adding.added_at state.now.records (around_in index.now) (get_by_text firsts.now.numbers) number) }
 {
     match state.record(number) {
-        Some(record) => add_record(alloc, state, index, number, record, made),
+        Some(record) => add_record(alloc, state, index, firsts, number, record, made),
         None => Ok(()),
     }
 }
@@ -64,16 +68,18 @@ fn add_record(
     alloc: Global,
     state: &State,
     index: &Index,
+    firsts: &Firsts,
     number: u32,
     record: &Record,
     made: &mut Vec<Added>,
 ) -> Result<(), RefusalKind>
     ensures { OnOk result (made.new.items ≡ made.old.items
-        ++ adding.added_by state.now.records (around_in index.now) number (Some «record».now)) }
+        ++ adding.added_by state.now.records (around_in index.now)
+        (get_by_text firsts.now.numbers) number (Some «record».now)) }
 {
     match record {
         Record::Event(event) => add_event(alloc, state, number, event, made),
-        Record::Entry(entry) => add_entry(alloc, index, entry, made),
+        Record::Entry(entry) => add_entry(alloc, index, firsts, entry, made),
         _ => Ok(()),
     }
 }

@@ -5,6 +5,7 @@
 //!
 //! - `kept`, `parts`: carried lines that are kept, and parts of records with them.
 //! - `words`, `lines`: the texts of notes, and lines made of them.
+//! - `firsts`: the event that a mention is of. `noted`: what cites an entry, and the notes of its mentions.
 //! - `added`, `events`, `entries`, `gathering`: what events and register entries add to other records.
 //! - `kinds`, `making`: the plain archive.
 //! - `writing`: its export. `laws`: what the plain archive has.
@@ -16,12 +17,14 @@
 mod added;
 mod entries;
 mod events;
+mod firsts;
 mod gathering;
 mod kept;
 mod kinds;
 pub mod laws;
 mod lines;
 mod making;
+mod noted;
 mod parts;
 mod words;
 mod writing;

@@ -14,7 +14,7 @@ use stored_lines::{Carried, Value};
 const MAX_BELOW: u32 = 98;
 
 /// Words as a text. Refused with 70 where they are too long for one.
-fn text_of(words: String) -> Result<Text, RefusalKind>
+pub(crate) fn text_of(words: String) -> Result<Text, RefusalKind>
     ensures { IfOk result (λ t. t ≡ string_bytes words) }
 {
     match Text::try_new(words) {

@@ -31,7 +31,7 @@ fn push_before(out: &mut String, mark: &str, text: &str) -> Result<(), AllocErro
 }
 
 /// The words of a date; none of no date.
-fn date_words(date: &Option<Date>) -> &str
+pub(crate) fn date_words(date: &Option<Date>) -> &str
     ensures { result.now ≡ words.date_words date.now }
 {
     match date {
