@@ -2,3 +2,4 @@ pub mod Trimming
 pub mod Among
 pub mod Whole
 pub mod Marking
+pub mod Getting

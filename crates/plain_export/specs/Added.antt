@@ -1,7 +1,24 @@
 -- What a record adds to other records in a plain export: an event who took part, and a register entry where it is
 -- cited. Lines of the standard in place of our own (The GEDCOM Standard Release 5.5.1, chapter 2,
 -- ASSOCIATION_STRUCTURE, NOTE_STRUCTURE and SOURCE_CITATION).
-use Rattle.std.specs.Prelude.{ℕ, ◌==◌, Bool, true, if◌then◌else◌, List, [], ◌∷◌, ◌++◌, map, fold, codes, Option, Some, None, option_map}
+use Rattle.std.specs.Prelude.{
+  ℕ,
+  ◌==◌,
+  Bool,
+  true,
+  if◌then◌else◌,
+  List,
+  [],
+  ◌∷◌,
+  ◌++◌,
+  map,
+  fold,
+  codes,
+  Option,
+  Some,
+  None,
+  option_map,
+}
 use Rattle.std.specs.List.{filter, flat_map, list_any}
 use Rattle.std.specs.FinMap.{get, keys}
 use Rattle.stored_lines.specs.Tree.{Tree}

@@ -4,3 +4,4 @@ pub mod Firsts
 pub mod Added
 pub mod Plain
 pub mod Made
+pub mod LeftOut

@@ -50,7 +50,7 @@ pub(crate) fn plain_source(
 }
 
 /// Whether a line has the tag of a sex.
-fn is_sex(line: &Carried) -> bool
+pub(crate) fn is_sex(line: &Carried) -> bool
     ensures { result ≡ plain.is_sex line.now }
 {
     line.tag.as_str() == "SEX"

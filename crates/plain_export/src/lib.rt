@@ -8,7 +8,7 @@
 //! - `firsts`: the event that a mention is of. `noted`: what cites an entry, and the notes of its mentions.
 //! - `added`, `events`, `entries`, `gathering`: what events and register entries add to other records.
 //! - `kinds`, `making`: the plain archive.
-//! - `writing`: its export. `laws`: what the plain archive has.
+//! - `writing`: its export. `laws`: what the plain archive has. `left_out`, `naming`: what it has not.
 //!
 //! Callers may rely on: the text that is written is that of the plain archive of `specs/Plain`; a record is looked at
 //! a few times and found in maps and sorted lists, so that the whole is linear but for these.
@@ -22,11 +22,15 @@ mod gathering;
 mod kept;
 mod kinds;
 pub mod laws;
+mod left_out;
 mod lines;
 mod making;
+mod naming;
 mod noted;
 mod parts;
 mod words;
 mod writing;
 
+pub use left_out::{our_own_records, places_with_lines, second_sexes};
+pub use naming::unnamed_places;
 pub use writing::export_plain;

@@ -16,8 +16,8 @@ all-preserved c =
     let n = get_or c.deref-number-items.result.now i 0 in
     let more : flat_map f (take (i + 1) ns) ≡ flat_map f (take i ns) ++ f n = grind (arith, common_steps) in
     subst (Adds (λ _. None) (get_by_text c.put_found.new.numbers)) (sym more)
-    (adds_then (λ _. None) (get_by_text c.all.found) (get_by_text c.put_found.new.numbers) (flat_map f (take i ns)) (f n)
-    c.all.invariant c.in_ok-put_found.ensures)
+    (adds_then (λ _. None) (get_by_text c.all.found) (get_by_text c.put_found.new.numbers) (flat_map f (take i ns))
+    (f n) c.all.invariant c.in_ok-put_found.ensures)
 
 pub returns : goal.returns
 returns c =
