@@ -1,5 +1,25 @@
 -- Sets of numbers that get those that pass a test.
-use Rattle.std.proofs.Common.{◌≡◌, ◌<◌, ◌+◌, ℕ, List, [], ◌∷◌, Bool, true, false, cond, length, take, get_or, refl, sym, ap, subst, ◌∙◌}
+use Rattle.std.proofs.Common.{
+  ◌≡◌,
+  ◌<◌,
+  ◌+◌,
+  ℕ,
+  List,
+  [],
+  ◌∷◌,
+  Bool,
+  true,
+  false,
+  cond,
+  length,
+  take,
+  get_or,
+  refl,
+  sym,
+  ap,
+  subst,
+  ◌∙◌,
+}
 use Rattle.std.specs.Prelude.{◌||◌, ◌==◌}
 use Rattle.std.specs.BTreeMap.{is_at}
 use Rattle.std.specs.BTreeSet as set

@@ -3,3 +3,4 @@ pub mod Among
 pub mod Whole
 pub mod Marking
 pub mod Getting
+pub mod Splitting

@@ -1,7 +1,22 @@
 -- The plain archive: what an archive is without what the standard has no words for. The plain export of an archive is
 -- the export of its plain archive, so its header, the order of its records and their cross references are those of
 -- any export (The GEDCOM Standard Release 5.5.1, chapter 2, LINEAGE_LINKED_GEDCOM). Rules of our own.
-use Rattle.std.specs.Prelude.{ℕ, ◌≡◌, Bool, not, if◌then◌else◌, [], ◌++◌, map, codes, Option, Some, None, option_map}
+use Rattle.std.specs.Prelude.{
+  ℕ,
+  ◌≡◌,
+  Bool,
+  not,
+  if◌then◌else◌,
+  [],
+  ◌∷◌,
+  ◌++◌,
+  map,
+  codes,
+  Option,
+  Some,
+  None,
+  option_map,
+}
 use Rattle.std.specs.List.{filter}
 use Rattle.std.specs.Str.{bytes_eq}
 use Rattle.std.specs.FinMap.{get}
@@ -107,6 +122,10 @@ plain_at m a more (Some r) = if is_left_out (Some r) then None else Some (plain_
 -- what all records add to the record of a number
 abbrev pub added_to : Records → ℕ → Lines
 added_to m n = lines_of n (added m (around m))
+
+-- a line is among others
+abbrev pub IsAmong : Tree Line → Lines → Type 0
+IsAmong t ts = (front : Lines) × (back : Lines) × (ts ≡ front ++ t ∷ back)
 
 -- the plain archive of an archive
 pub record IsPlain (m plain : Records) : Type 0 where

@@ -1,11 +1,13 @@
 //! What the plain archive of an archive has.
 
-ghost use Rattle.std.specs.Prelude.{◌≡◌, ℕ, Some, None};
+ghost use Rattle.std.specs.Prelude.{◌≡◌, ℕ, [], Some, None};
 ghost use Rattle.std.specs.FinMap.{get};
 ghost use Rattle.record_kinds.specs.Model as model;
 ghost use Rattle.record_kinds.specs.declared.record.Record.TheVariants as kind;
 ghost use Rattle.archive_state.specs.Content.{Records};
 ghost use Rattle.gedcom_export.specs.Around.{around};
+ghost use Rattle.plain_export.specs.Added as adding;
+ghost use Rattle.plain_export.specs.Firsts.{firsts};
 ghost use Rattle.plain_export.specs.Plain as plain;
 
 /// An archive has one plain archive.
@@ -37,4 +39,11 @@ pub fn places_and_entries_have_no_record()
         → get m n ≡ Some (kind.Place x) → get p n ≡ None }
     ensures entries { (m p : Records) (n : ℕ) (x : model.Entry) → plain.IsPlain m p
         → get m n ≡ Some (kind.Entry x) → get p n ≡ None }
+{}
+
+/// No entry without a link is lost: it is a note of its source.
+pub fn an_entry_without_a_link_is_noted()
+    ensures { (m : Records) (n : ℕ) (e : model.Entry) → get m n ≡ Some (kind.Entry e)
+        → adding.cited (adding.noted (firsts m) e) ≡ []
+        → plain.IsAmong (adding.entry_note (around m) e) (plain.added_to m e.source) }
 {}

@@ -16,10 +16,12 @@ partners-preserved c =
     let person : model.Partner → ℕ = λ p. p.person in
     let ps = c.args.partners.now in
     let i = c.partners.partner-index in
+    let old = get_by_text c.args.numbers.now in
+    let mid = get_by_text c.partners.numbers in
+    let new = get_by_text c.put_event_of.new.numbers in
     let more : flat_map f (map person (take (i + 1) ps))
     ≡ flat_map f (map person (take i ps)) ++ f c.partner-item.result.person = grind (arith, common_steps) in
-    subst (Adds (get_by_text c.args.numbers.now) (get_by_text c.put_event_of.new.numbers)) (sym more)
-    (adds_then (get_by_text c.args.numbers.now) (get_by_text c.partners.numbers)
-    (get_by_text c.put_event_of.new.numbers) (flat_map f (map person (take i ps))) (f c.partner-item.result.person) c.partners.invariant
-    (subst (λ k. Adds (get_by_text c.partners.numbers) (get_by_text c.put_event_of.new.numbers) (f k))
-    (ap person c.partner.view_is) c.in_ok-put_event_of.ensures))
+    subst (Adds old new) (sym more)
+    (adds_then old mid new (flat_map f (map person (take i ps))) (f c.partner-item.result.person)
+    c.partners.invariant
+    (subst (λ k. Adds mid new (f k)) (ap person c.partner.view_is) c.in_ok-put_event_of.ensures))
