@@ -1,0 +1,6 @@
+pub mod Trimming
+pub mod Among
+pub mod Whole
+pub mod Marking
+pub mod Getting
+pub mod Splitting

@@ -1,0 +1,7 @@
+pub mod Kept
+pub mod Words
+pub mod Firsts
+pub mod Added
+pub mod Plain
+pub mod Made
+pub mod LeftOut
