@@ -2,10 +2,12 @@
 
     python3 tests/generated.py
 
-A part stands between `<!-- generated: NAME -->` and `<!-- end of NAME -->`. What is there is replaced by
-what the sources say today: the list of crates, the files whose definitions contracts cite, the laws,
-and the rows of the gate's table, whose measured columns stay. tests/layout.py tests that each part is
-what is written here.
+A part stands between `<!-- generated: NAME -->` and `<!-- end of NAME -->`, of the manual between comments of
+troff. What is there is replaced by what the sources say today: the list of crates, the files whose definitions
+contracts cite, the main words, the standards that files of definitions name, the laws and what some of them say,
+the tables of an archive, the rows of the gate's table, whose measured columns stay, and what tests/manual.py has
+for the manual.
+tests/layout.py tests that each part is what is written here.
 """
 
 from __future__ import annotations
@@ -14,6 +16,9 @@ import glob
 import os
 import re
 import textwrap
+
+import manual
+from cited import LAWS_SAID, MAIN_WORDS
 
 ROOT = os.path.dirname(os.path.dirname(os.path.abspath(__file__)))
 WIDTH = 120
@@ -35,7 +40,8 @@ def text_of(path):
 
 
 def paths(pattern):
-    return sorted(glob.glob(pattern, root_dir=ROOT, recursive=True))
+    """The files of a pattern, without what the gate makes in out/, which has copies of crates that an edit changed."""
+    return sorted(it for it in glob.glob(pattern, root_dir=ROOT, recursive=True) if "out" not in it.split("/"))
 
 
 def sections():
@@ -154,6 +160,66 @@ def list_of_definitions(_now):
             yield ""
 
 
+def said_above(path, name):
+    """The comment above a definition; the file's own, if there is none."""
+    found = re.search(rf"((?:^ *--.*\n)*)^ *(?:\w+ )*pub (?:record |data )?{name}(?!\w)", text_of(path), re.MULTILINE)
+    if found is None:
+        raise ValueError(f"{path} has no {name}")
+    above = [line.strip() for line in found[1].split("\n")]
+    return first_sentence(comment(above, "--")) or said_of(path, "--")
+
+
+def list_of_main_words(_now):
+    """Of each subject its definitions, with what their comments say."""
+    for subject, places in MAIN_WORDS.items():
+        yield f"**{subject}**\n"
+        for place in places.split("; "):
+            home, _, names = place.partition(": ")
+            crate, _, file = home.partition("/")
+            path = f"crates/{crate}/specs/{file}.antt"
+            for name in names.split():
+                yield item(f"[`{name}`](../{path}) of {crate}: {said_above(path, name)}")
+        yield ""
+
+
+# What the comments of definitions name, and how: chapters are those of GEDCOM 5.5.1.
+STANDARDS = (
+    ("GEDCOM 5.5.1, chapter 1", r"5\.5\.1.*chapter 1"),
+    ("GEDCOM 5.5.1, chapter 2", r"5\.5\.1.*chapter 2"),
+    ("The Unicode Standard", r"The Unicode Standard"),
+    ("RFC 3629, UTF-8", r"RFC 3629"),
+    ("ANSI/NISO Z39.47, ANSEL", r"Z39\.47"),
+    ("RFC 4180, CSV", r"RFC 4180"),
+    ("FIPS 180-4, SHA-256", r"FIPS 180-4"),
+    ("RFC 9112 and RFC 9110, HTTP", r"RFC 91\d\d"),
+    ("the URL Standard", r"the URL Standard"),
+    ("the HTML Living Standard", r"HTML Living Standard"),
+)
+BLOCK = re.compile(r"(?:^ *--.*\n)+", re.MULTILINE)
+
+
+def comments_of(path):
+    """The comments of a file of definitions, each as one line without its marks."""
+    for block in BLOCK.findall(text_of(path)):
+        yield " ".join(line.strip().removeprefix("--").strip() for line in block.splitlines())
+
+
+def names_standard(path, pattern):
+    return any(re.search(pattern, comment) for comment in comments_of(path))
+
+
+def files_naming(crate, pattern):
+    found = [path for path in paths(f"crates/{crate}/specs/**/*.antt") if names_standard(path, pattern)]
+    return [path.removeprefix(f"crates/{crate}/specs/").removesuffix(".antt") for path in found]
+
+
+def list_of_standards(_now):
+    """Of each standard the files of definitions whose comments name it, by their crates."""
+    for title, pattern in STANDARDS:
+        found = {crate: files_naming(crate, pattern) for crate in product()}
+        yield item(f"**{title}**: " + "; ".join(f"{it}: {', '.join(files)}" for it, files in found.items() if files))
+
+
 def laws_of(crate):
     for path in paths(f"crates/{crate}/src/laws.rt") + paths(f"crates/{crate}/src/laws/**/*.rt"):
         yield from LAW.findall(text_of(path))
@@ -165,6 +231,65 @@ def list_of_laws(_now):
         laws = list(laws_of(crate))
         if laws:
             yield item(f"[{crate}](../crates/{crate}/src/laws.rt): {', '.join(f'`{law}`' for law in laws)}")
+
+
+SAID_LAW = re.compile(r"((?:^///.*\n)+)(?:^#\[.*\n)*^pub fn (\w+)", re.MULTILINE)
+
+
+def said_laws(crate):
+    """The laws of a crate, each with its docstring."""
+    for path in paths(f"crates/{crate}/src/laws.rt") + paths(f"crates/{crate}/src/laws/**/*.rt"):
+        for said, law in SAID_LAW.findall(text_of(path)):
+            yield law, " ".join(comment(said.split("\n"), "///").split())
+
+
+def list_of_said_laws(section):
+    """The laws of a section of PROVED.md, each with its docstring."""
+    for place in LAWS_SAID[section].split("; "):
+        crate, _, laws = place.partition(": ")
+        known = dict(said_laws(crate))
+        for law in laws.split():
+            yield item(f"`{law}` ({crate}): {known[law]}")
+
+
+SCHEMA = "crates/store_tables/src/creating.rt"
+SLIP_LINE = re.compile(r'^const CREATE_SLIP_LINE: &str =\s*"([^"]*)";', re.MULTILINE)
+STATEMENT = re.compile(r'"((?:CREATE|DROP) [^"]*)"')
+MADE = re.compile(r"CREATE (?:TABLE|INDEX) (\w+) (?:ON (\w+))?")
+
+
+def schemas():
+    """The statements of both versions: a new archive is one of version 1 first, and then changed to version 2."""
+    source = text_of(SCHEMA)
+    source = SLIP_LINE.sub("", source).replace("CREATE_SLIP_LINE", f'"{SLIP_LINE.search(source)[1]}"')
+    first, _, later = source.partition("pub fn create_later_tables")
+    made = {MADE.match(statement)[1]: statement for statement in STATEMENT.findall(first)}
+    changed = dict(made)
+    for statement in STATEMENT.findall(later):
+        if statement.startswith("DROP TABLE "):
+            gone = statement.removeprefix("DROP TABLE ")
+            changed = {name: its for name, its in changed.items() if name != gone and MADE.match(its)[2] != gone}
+        else:
+            changed[MADE.match(statement)[1]] = statement
+    return list(made.values()), list(changed.values())
+
+
+def sql(statements):
+    yield "```sql"
+    for statement in statements:
+        yield textwrap.fill(statement + ";", WIDTH, subsequent_indent="  ", break_on_hyphens=False)
+    yield "```"
+
+
+def list_of_tables(_now):
+    """The tables and the indexes of an archive."""
+    return sql(schemas()[1])
+
+
+def list_of_first_tables(_now):
+    """Those of version 1 that are others."""
+    first, now = schemas()
+    return sql(statement for statement in first if statement not in now)
 
 
 GATE = "{:<20}{:>5}  {:>3}  {:>5}  {:>4}  {:>5}  {}"
@@ -206,13 +331,26 @@ PARTS = {
     ("docs/ARCHITECTURE.md", "crates"): list_of_crates,
     ("docs/DEFINITIONS.md", "definitions"): list_of_definitions,
     ("docs/DEFINITIONS.md", "laws"): list_of_laws,
+    ("docs/DEFINITIONS.md", "standards"): list_of_standards,
+    ("docs/DEFINITIONS.md", "words"): list_of_main_words,
+    ("docs/FORMATS.md", "tables"): list_of_tables,
+    ("docs/FORMATS.md", "tables of version 1"): list_of_first_tables,
     ("docs/GATE.md", "edits"): gate_table,
+    **{("docs/PROVED.md", section): lambda _now, section=section: list_of_said_laws(section) for section in LAWS_SAID},
+    ("docs/parish.1", "commands"): manual.list_of_commands,
+    ("docs/parish.1", "refusals"): manual.list_of_refusals,
+    ("docs/parish.1", "synopsis"): manual.synopsis,
 }
+
+
+MARKS = ("<!-- generated: {} -->\n", "<!-- end of {} -->")
+MARKS_OF_TROFF = ('.\\" generated: {}\n', '.\\" end of {}\n')
 
 
 def part_of(text, name):
     """A part of a document: what is before it, the part, what is after it."""
-    begin, end = f"<!-- generated: {name} -->\n", f"<!-- end of {name} -->"
+    marks = MARKS_OF_TROFF if text.startswith("'\\\"") else MARKS
+    begin, end = (mark.format(name) for mark in marks)
     before, _, more = text.partition(begin)
     now, found, after = more.partition(end)
     if not found:
@@ -224,7 +362,8 @@ def written(document, name):
     """The document with the part as the sources have it today."""
     before, now, after = part_of(text_of(document), name)
     lines = "\n".join(PARTS[document, name](now)).strip("\n")
-    return f"{before}\n{lines}\n\n{after}"
+    between = "" if document.endswith(".1") else "\n"
+    return f"{before}{between}{lines}\n{between}{after}"
 
 
 def measured_so_far():
