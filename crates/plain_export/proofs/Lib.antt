@@ -4,3 +4,5 @@ pub mod Whole
 pub mod Marking
 pub mod Getting
 pub mod Splitting
+pub mod Standing
+pub mod InLine

@@ -1,8 +1,10 @@
 -- The plain archive: there is one, and what is made is it.
-use Rattle.std.proofs.Common.{◌≡◌, ℕ, List, sym, ap, subst, ◌∙◌, map}
+use Rattle.std.proofs.Common.{◌≡◌, ◌++◌, ◌∷◌, [], ℕ, List, sym, ap, subst, ◌∙◌, map}
+use Rattle.std.proofs.lemmas.List.{append-nil, append_assoc}
+use Rattle.std.specs.Ordering.{nat_cmp}
 use Rattle.std.specs.Prelude.{Option, Some, Result, Ok, Err, MatchResult}
 use Rattle.std.specs.Cmp.{nat_cmp_total}
-use Rattle.std.specs.FinMap.{entries, get, nat_cmp-IsAntisymmetric, same_map}
+use Rattle.std.specs.FinMap.{empty, entries, get, get-empty, keys, nat_cmp-IsAntisymmetric, same_map}
 use Rattle.devices.specs.Devices.{AppendsBeginning}
 use Rattle.record_text.specs.declared.refusal.Refusal.{Refusal}
 use Rattle.record_kinds.specs.declared.record.Record.{Record}
@@ -15,9 +17,25 @@ use Rattle.gedcom_export.specs.Owned.{IsArrangedBy}
 use Rattle.gedcom_export.specs.Shown.{around_in}
 use Rattle.gedcom_export.proofs.Places.{paths_are}
 use Rattle.plain_export.specs.Added.{added, lines_of}
-use Rattle.plain_export.specs.Made.{AreMade}
+use Rattle.plain_export.specs.Made.{AreMade, made_at, put_if}
 use Rattle.plain_export.specs.Plain.{IsPlain, added_to, plain_at}
 use Rattle.plain_export.specs.declared.added.Added.{Added}
+use Rattle.plain_export.proofs.Among.{ArePut, all_made, one_more}
+
+-- what has to stand at more numbers can be put there
+put_all : (at : ℕ → Option Record) (ns js : List ℕ) (made : Records) → ArePut at ns made
+    → (all : Records) × ArePut at (ns ++ js) all
+put_all at ns [] made h = (made, subst (λ ks. ArePut at ks made) (sym (append-nil ns)) h)
+put_all at ns (j ∷ js) made h =
+    let more = put_all at (ns ++ j ∷ []) js (put_if made j (at j)) (one_more at ns j made h) in
+    (more.0, subst (λ ks. ArePut at ks more.0) (append_assoc ns (j ∷ []) js) more.1)
+
+pub some_plain : (m : Records) → (p : Records) × IsPlain m p
+some_plain m =
+    let xs = added m (around m) in
+    let none : ArePut (made_at m (around m) xs) [] empty = λ n. get-empty nat_cmp n in
+    let all = put_all (made_at m (around m) xs) [] (keys m) empty none in
+    (all.0, record { records = all_made m (around m) xs all.0 all.1 })
 
 pub one_plain : (m p q : Records) → IsPlain m p → IsPlain m q → p ≡ q
 one_plain m p q h k = same_map nat_cmp_total nat_cmp-IsAntisymmetric _ _ (λ n. h.records n ∙ sym (k.records n))

@@ -31,6 +31,7 @@ use Rattle.record_kinds.specs.declared.record.Record.TheVariants as kind
 use Rattle.record_shapes.specs.Shapes.{Around, line, pointer_line, text_line}
 use Rattle.sheet_lines.specs.Words.{display_of}
 use Rattle.archive_state.specs.Content.{Records}
+use Rattle.plain_export.specs.Allowed.{one_line, page_line, said_lines}
 use Rattle.plain_export.specs.Firsts.{Firsts, cited_by, firsts, persons_of}
 use Rattle.plain_export.specs.Kept.{kept}
 use Rattle.plain_export.specs.Words.{
@@ -59,8 +60,8 @@ note_of m p = text_line (codes "NOTE") (with_words (shown (get m p.person)) p.ro
 
 -- below a person whose event it is: as what, in which event, and what is carried by the participant
 abbrev pub below_association : Records → model.Event → model.Participant → Lines
-below_association m e p =
-    text_line (codes "RELA") (relation_words p.role) ∷ text_line (codes "NOTE") (event_words e) ∷ kept m p.carried
+below_association m e p = text_line (codes "RELA") (one_line (relation_words p.role))
+    ∷ text_line (codes "NOTE") (event_words e) ∷ kept m p.carried
 
 abbrev pub association : Records → model.Event → model.Participant → Tree Line
 association m e p = pointer_line (codes "ASSO") p.person (below_association m e p)
@@ -99,17 +100,13 @@ is_of n (Some k) = k == n
 abbrev pub note_line : Noted → Tree Line
 note_line x = text_line (codes "NOTE") x.words
 
--- the date and the text of an entry; an empty text has no line
+-- the date and the text of an entry
 abbrev pub date_lines : Option Date → Lines
 date_lines None = []
 date_lines (Some d) = text_line (codes "DATE") d.text ∷ []
 
-abbrev pub said_lines : List ℕ → Lines
-said_lines [] = []
-said_lines (b ∷ bs) = text_line (codes "TEXT") (b ∷ bs) ∷ []
-
 abbrev pub below_data : model.Entry → Lines
-below_data e = date_lines e.date ++ said_lines e.text
+below_data e = date_lines e.date ++ said_lines (codes "TEXT") e.text
 
 -- the same below a line of their own, where there is one of them
 abbrev pub data_of : Lines → Lines
@@ -121,7 +118,7 @@ data_lines e = data_of (below_data e)
 
 -- the citation of an entry: the page, the data, and a note for each mention that it speaks of
 abbrev pub below_citation : model.Entry → List Noted → ℕ → Lines
-below_citation e xs n = text_line (codes "PAGE") (page_words e) ∷ (data_lines e
+below_citation e xs n = page_line (page_words e) ∷ (data_lines e
     ++ map note_line (filter (λ (x : Noted). is_of n x.at) xs))
 
 abbrev pub citation : model.Entry → List Noted → ℕ → Tree Line

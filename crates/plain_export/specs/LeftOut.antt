@@ -1,5 +1,5 @@
 -- What a plain export leaves out of an archive, by the numbers of its records. Rules of our own.
-use Rattle.std.specs.Prelude.{ℕ, ◌≡◌, ◌&&◌, ◌||◌, ◌==◌, not, Bool, true, false, List, [], ◌∷◌, Option, Some, None}
+use Rattle.std.specs.Prelude.{ℕ, ◌≡◌, ◌&&◌, ◌||◌, ◌==◌, not, Bool, true, false, List, Option, Some, None}
 use Rattle.std.specs.List.{filter, list_any}
 use Rattle.std.specs.BTreeSet as set
 use Rattle.std.specs.BTreeSet.{BTreeSet}
@@ -11,12 +11,9 @@ use Rattle.record_kinds.specs.Model as model
 use Rattle.record_kinds.specs.declared.record.Record.{Record}
 use Rattle.record_kinds.specs.declared.record.Record.TheVariants as kind
 use Rattle.archive_state.specs.Content.{Records}
+use Rattle.plain_export.specs.Allowed.{has_lines}
 use Rattle.plain_export.specs.Kept.{is_ours}
 use Rattle.plain_export.specs.Plain.{is_sex}
-
-abbrev pub has_lines : Lines → Bool
-has_lines [] = false
-has_lines (t ∷ ts) = true
 
 -- a place with carried lines: they stand nowhere else
 abbrev pub carries_lines : Option Record → Bool

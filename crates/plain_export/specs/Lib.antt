@@ -1,4 +1,5 @@
 pub mod Kept
+pub mod Allowed
 pub mod Words
 pub mod Firsts
 pub mod Added

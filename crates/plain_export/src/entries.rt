@@ -9,8 +9,9 @@ ghost use Rattle.plain_export.specs.declared.noted.Noted as declared;
 
 use crate::added::{Added, add};
 use crate::firsts::Firsts;
-use crate::lines::{line, put_line, words_line};
+use crate::lines::{line, put_line, put_text, words_line};
 use crate::noted::{Noted, cited, is_of, note_line, noted_all};
+use crate::pages::page_line;
 use crate::words::{entry_words, page_words};
 use gedcom_export::Index;
 use node_writing::Named;
@@ -31,25 +32,13 @@ fn put_date(alloc: Global, date: &Option<Date>, below: &mut Vec<Carried>) -> Res
     Ok(())
 }
 
-/// Puts the line of a text, unless it is empty.
-fn put_text(alloc: Global, text: &Text, below: &mut Vec<Carried>) -> Result<(), RefusalKind>
-    ensures { OnOk result (below.new.items ≡ below.old.items ++ adding.said_lines text.now) }
-{
-    if text.as_str().is_empty() {
-        return Ok(());
-    }
-    let words = String::from_str(alloc, text.as_str())?;
-    put_line(below, words_line(alloc, "TEXT", words)?)?;
-    Ok(())
-}
-
 /// The date and the text of an entry.
 fn below_data(alloc: Global, entry: &Entry) -> Result<Vec<Carried>, RefusalKind>
     ensures { IfOk result (λ made. made.items ≡ adding.below_data entry.now) }
 {
     let mut below = Vec::new(alloc);
     put_date(alloc, &entry.date, &mut below)?;
-    put_text(alloc, &entry.text, &mut below)?;
+    put_text(alloc, "TEXT", &entry.text, &mut below)?;
     Ok(below)
 }
 
@@ -94,7 +83,7 @@ fn below_citation(
     ensures { IfOk result (λ made. made.items ≡ adding.below_citation entry.now noted.now number) }
 {
     let mut below = Vec::new(alloc);
-    let page = words_line(alloc, "PAGE", page_words(alloc, entry)?)?;
+    let page = page_line(alloc, page_words(alloc, entry)?)?;
     put_line(&mut below, page)?;
     put_data(alloc, entry, &mut below)?;
     put_notes(alloc, noted, number, &mut below)?;

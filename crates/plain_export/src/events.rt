@@ -9,6 +9,7 @@ ghost use Rattle.plain_export.specs.Firsts.{persons_of};
 use crate::added::{Added, add};
 use crate::kept::kept_lines;
 use crate::lines::{line, put_line, words_line};
+use crate::one_line::words_in_line;
 use crate::words::{event_words, relation_words, with_words};
 use archive_state::State;
 use record_kinds::{Event, Participant, Partner, Record};
@@ -48,6 +49,7 @@ fn below_association(
 {
     let mut below = Vec::new(alloc);
     let relation = relation_words(alloc, participant.role.as_str())?;
+    let relation = words_in_line(alloc, relation.as_str())?;
     put_line(&mut below, words_line(alloc, "RELA", relation)?)?;
     let words = event_words(alloc, event)?;
     put_line(&mut below, words_line(alloc, "NOTE", words)?)?;

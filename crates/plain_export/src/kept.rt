@@ -23,7 +23,7 @@ pub(crate) fn is_ours(tag: &str) -> bool
     is_one_of(tag, &OURS)
 }
 
-fn is_one_of(word: &str, tags: &[&str]) -> bool
+pub(crate) fn is_one_of(word: &str, tags: &[&str]) -> bool
     ensures { result ≡ list_any (λ tag. bytes_eq word.now tag.now) tags.now }
 {
     tags.iter().any(|tag| word == *tag)

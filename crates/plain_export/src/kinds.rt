@@ -7,14 +7,19 @@ ghost use Rattle.record_shapes.specs.Shapes.{Around};
 ghost use Rattle.gedcom_export.specs.Shown.{around_in};
 ghost use Rattle.plain_export.specs.Plain as plain;
 
+use crate::allowed::{pair, put_value, value_after};
 use crate::kept::{is_ours, kept_lines, names_left_out};
 use crate::lines::{line, put_line};
-use crate::parts::kept_parts;
+use crate::one_line::{maybe_one_line, words_in_line};
+use crate::pages::{put_page, short_page};
+use crate::parts::{kept_parts, plain_names};
 use archive_state::State;
 use gedcom_export::Index;
 use node_writing::Named;
 use record_fields::{Date, Sex};
-use record_kinds::{Citation, Event, EventPlace, Family, Other, Person, Record, Repo, Source};
+use record_kinds::{
+    Citation, Event, EventPlace, Family, Other, Partner, Person, Record, Repo, Source,
+};
 use record_text::{RefusalKind, Text};
 use std::alloc::{AllocError, Global};
 use stored_lines::{Carried, Value, copied};
@@ -24,7 +29,7 @@ pub(crate) fn plain_repo(alloc: Global, state: &State, repo: &Repo) -> Result<Re
     ensures { IfOk result (λ r. r ≡ plain.plain_repo state.now.records repo.now) }
 {
     Ok(Repo {
-        name: copied(alloc, &repo.name)?,
+        name: maybe_one_line(alloc, &repo.name)?,
         carried: kept_lines(alloc, state, &repo.carried)?,
     })
 }
@@ -96,10 +101,23 @@ pub(crate) fn plain_person(
     let mut carried = without_sex(alloc, person.sex, kept)?;
     carried.append(&mut more)?;
     Ok(Person {
-        names: kept_parts(alloc, state, &person.names)?,
+        names: plain_names(alloc, state, &person.names)?,
         sex: person.sex,
         carried,
     })
+}
+
+/// The partners of a family, each with the carried lines that are kept.
+fn plain_partners(
+    alloc: Global,
+    state: &State,
+    partners: &[Partner],
+) -> Result<Vec<Partner>, AllocError>
+    ensures { IfOk result (λ made. made.items ≡ plain.plain_partners state.now.records partners.now) }
+{
+    let mut made = kept_parts(alloc, state, partners)?;
+    pair(&mut made);
+    Ok(made)
 }
 
 /// A family, with the carried lines that are kept.
@@ -111,7 +129,7 @@ pub(crate) fn plain_family(
     ensures { IfOk result (λ f. f ≡ plain.plain_family state.now.records family.now) }
 {
     Ok(Family {
-        partners: kept_parts(alloc, state, &family.partners)?,
+        partners: plain_partners(alloc, state, &family.partners)?,
         children: kept_parts(alloc, state, &family.children)?,
         carried: kept_lines(alloc, state, &family.carried)?,
     })
@@ -122,15 +140,18 @@ pub(crate) fn plain_citation(
     alloc: Global,
     state: &State,
     citation: &Citation,
-) -> Result<Citation, AllocError>
+) -> Result<Citation, RefusalKind>
     ensures { IfOk result (λ c. c ≡ plain.plain_citation state.now.records citation.now) }
 {
+    let mut carried = Vec::new(alloc);
+    put_page(alloc, &citation.page, &mut carried)?;
+    carried.append(&mut kept_lines(alloc, state, &citation.carried)?)?;
     Ok(Citation {
         owner: citation.owner,
         source: citation.source,
-        page: copied(alloc, &citation.page)?,
+        page: short_page(alloc, &citation.page)?,
         quality: citation.quality,
-        carried: kept_lines(alloc, state, &citation.carried)?,
+        carried,
     })
 }
 
@@ -144,6 +165,7 @@ fn place_line(
     ensures { IfOk result (λ c. c ≡ plain.place_line state.now.records (around_in index.now) place.now) }
 {
     let path = index.path(alloc, place.place)?;
+    let path = words_in_line(alloc, path.as_str())?;
     let Some(text) = Text::try_new(path) else {
         return Err(RefusalKind::ExportTooLarge);
     };
@@ -180,6 +202,7 @@ fn event_lines(
         ≡ plain.event_lines state.now.records (around_in index.now) more.items event.now) }
 {
     let mut made = place_lines(alloc, state, index, &event.place)?;
+    put_value(alloc, event.tag.as_str(), &event.value, &mut made)?;
     let mut kept = kept_lines(alloc, state, &event.carried)?;
     made.append(&mut kept)?;
     made.append(&mut more)?;
@@ -200,7 +223,7 @@ pub(crate) fn plain_event(
     Ok(Event {
         owner: event.owner,
         tag: event.tag.copy(alloc)?,
-        value: event.value.copy(alloc)?,
+        value: value_after(alloc, event.tag.as_str(), &event.value)?,
         date: copied_date(alloc, &event.date)?,
         place: None,
         participants: Vec::new(alloc),

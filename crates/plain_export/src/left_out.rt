@@ -5,6 +5,7 @@ ghost use Rattle.std.specs.List.{list_any};
 ghost use Rattle.plain_export.specs.LeftOut as leaving;
 ghost use Rattle.plain_export.specs.Plain.{is_sex as has_sex_tag};
 
+use crate::allowed::has_lines;
 use crate::kept::is_ours;
 use crate::kinds::is_sex;
 use archive_state::State;
@@ -34,12 +35,6 @@ fn carries_lines(found: Option<&Record>) -> bool
         Some(Record::Place(place)) => has_lines(&place.carried),
         _ => false,
     }
-}
-
-fn has_lines(lines: &[Carried]) -> bool
-    ensures { result ≡ leaving.has_lines lines.now }
-{
-    !lines.is_empty()
 }
 
 /// The records of no other kind that a plain export leaves out, by number: they have a tag of our own.

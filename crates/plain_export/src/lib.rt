@@ -7,7 +7,8 @@
 //! - `words`, `lines`: the texts of notes, and lines made of them.
 //! - `firsts`: the event that a mention is of. `noted`: what cites an entry, and the notes of its mentions.
 //! - `added`, `events`, `entries`, `gathering`: what events and register entries add to other records.
-//! - `kinds`, `making`: the plain archive.
+//! - `allowed`: what the standard allows in names, families and events. `one_line`, `pages`: the same in texts of one
+//!   line. `kinds`, `making`: the plain archive.
 //! - `writing`: its export. `laws`: what the plain archive has. `left_out`, `naming`: what it has not.
 //!
 //! Callers may rely on: the text that is written is that of the plain archive of `specs/Plain`; a record is looked at
@@ -15,6 +16,7 @@
 #![tactic(auto)]
 
 mod added;
+mod allowed;
 mod entries;
 mod events;
 mod firsts;
@@ -27,6 +29,8 @@ mod lines;
 mod making;
 mod naming;
 mod noted;
+mod one_line;
+mod pages;
 mod parts;
 mod words;
 mod writing;

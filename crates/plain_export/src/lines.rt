@@ -5,6 +5,7 @@ ghost use Rattle.stored_lines.specs.Levels.{levels as levels_of, forest_levels};
 ghost use Rattle.stored_lines.specs.Tree.{forest_of};
 ghost use Rattle.record_shapes.specs.Shapes as shapes;
 ghost use Rattle.record_text.specs.Text.{IsTag};
+ghost use Rattle.plain_export.specs.Allowed.{said_lines};
 
 use record_text::{RefusalKind, Tag, Text};
 use std::alloc::{AllocError, Global};
@@ -37,6 +38,24 @@ pub(crate) fn put_line(lines: &mut Vec<Carried>, line: Carried) -> Result<(), Al
     ensures { OnOk result (lines.new.items ≡ lines.old.items ++ line ∷ []) }
 {
     lines.push(line)?;
+    Ok(())
+}
+
+/// Puts the line of a text, unless it is empty.
+pub(crate) fn put_text(
+    alloc: Global,
+    tag: &str,
+    text: &Text,
+    lines: &mut Vec<Carried>,
+) -> Result<(), RefusalKind>
+    requires { IsTag tag.now }
+    ensures { OnOk result (lines.new.items ≡ lines.old.items ++ said_lines tag.now text.now) }
+{
+    if text.as_str().is_empty() {
+        return Ok(());
+    }
+    let words = String::from_str(alloc, text.as_str())?;
+    put_line(lines, words_line(alloc, tag, words)?)?;
     Ok(())
 }
 

@@ -4,11 +4,12 @@ ghost use Rattle.std.specs.Prelude.{◌≡◌, IfOk, map};
 ghost use Rattle.archive_state.specs.Content.{Records};
 ghost use Rattle.plain_export.specs.Plain as plain;
 
+use crate::allowed::{is_said, name_text};
 use crate::kept::kept_lines;
+use crate::one_line::maybe_one_line;
 use archive_state::State;
 use record_kinds::{Child, Holding, Name, Partner};
 use std::alloc::{AllocError, Global};
-use stored_lines::copied;
 
 /// A part of a record, with carried lines.
 pub(crate) trait Part: Drop {
@@ -34,12 +35,29 @@ pub(crate) fn kept_parts<P: Part>(
     Ok(made)
 }
 
+/// The names of a person, without those of nothing.
+pub(crate) fn plain_names(
+    alloc: Global,
+    state: &State,
+    names: &[Name],
+) -> Result<Vec<Name>, AllocError>
+    ensures { IfOk result (λ made. made.items ≡ plain.plain_names state.now.records names.now) }
+{
+    let mut made = Vec::new(alloc);
+    'names: for name in names {
+        if is_said(name) {
+            made.push(name.kept(alloc, state)?)?;
+        }
+    }
+    Ok(made)
+}
+
 impl Part for Name {
     ghost kept = { plain.plain_name };
 
     fn kept(&self, alloc: Global, state: &State) -> Result<Name, AllocError> {
         Ok(Name {
-            text: self.text.copy(alloc)?,
+            text: name_text(alloc, &self.text)?,
             carried: kept_lines(alloc, state, &self.carried)?,
         })
     }
@@ -51,7 +69,7 @@ impl Part for Holding {
     fn kept(&self, alloc: Global, state: &State) -> Result<Holding, AllocError> {
         Ok(Holding {
             repo: self.repo,
-            call_number: copied(alloc, &self.call_number)?,
+            call_number: maybe_one_line(alloc, &self.call_number)?,
             carried: kept_lines(alloc, state, &self.carried)?,
         })
     }
