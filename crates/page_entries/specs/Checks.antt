@@ -50,7 +50,7 @@ is_error cell =
     else if bytes_eq cell (codes "#NULL!") then true
     else false
 
--- and in a column that is too narrow: `#` alone, once or more
+-- and in a column that is too narrow: only `#`, once or more
 abbrev pub is_narrow : List ℕ → Bool
 is_narrow cell = not (length cell == 0) && list_all (λ b. b == 35) cell
 

@@ -53,7 +53,8 @@ fn cell_fault(check: Check, column: Option<Column>, cell: &str) -> Option<FaultK
     }
 }
 
-fn text_fault(column: Option<Column>, cell: &str) -> Option<FaultKind>
+/// What is wrong with a cell under a column, or after the last column, whatever the column means.
+pub fn text_fault(column: Option<Column>, cell: &str) -> Option<FaultKind>
     ensures { result ≡ checks.text_fault column cell.now }
 {
     match column {
@@ -64,7 +65,8 @@ fn text_fault(column: Option<Column>, cell: &str) -> Option<FaultKind>
     }
 }
 
-fn role_fault(kind: EntryKind, column: Option<Column>, cell: &str) -> Option<FaultKind>
+/// What is wrong with a name under a role in an entry of a kind.
+pub fn role_fault(kind: EntryKind, column: Option<Column>, cell: &str) -> Option<FaultKind>
     ensures { result ≡ checks.role_fault kind column cell.now }
 {
     match column {
@@ -109,7 +111,7 @@ fn is_error(cell: &str) -> bool
     }
 }
 
-/// What it writes in a column that is too narrow: `#` alone, once or more.
+/// What it writes in a column that is too narrow: only `#`, once or more.
 fn is_narrow(cell: &[u8]) -> bool
     ensures { result ≡ checks.is_narrow cell.now }
 {

@@ -26,7 +26,7 @@ pub struct PageDate {
 
 /// The date that a cell means. `None`: it is refused.
 #[tactic(auto, unfolding(crate::specs::Dates::date_in))]
-pub(crate) fn date_in(
+pub fn date_in(
     alloc: Global,
     order: Option<DateOrder>,
     cell: &str,
@@ -45,14 +45,14 @@ pub(crate) fn date_in(
 }
 
 /// The parts of a cell between marks.
-fn parts_of(alloc: Global, cell: &[u8]) -> Result<Vec<&[u8]>, AllocError>
+pub(crate) fn parts_of(alloc: Global, cell: &[u8]) -> Result<Vec<&[u8]>, AllocError>
     ensures { IfOk result (λ parts. map (λ p. p.now) parts.items ≡ dates.parts cell.now) }
 {
     cell.split(|b| is_mark(*b)).collect(alloc)
 }
 
 /// The marks between them.
-fn marks_of(alloc: Global, cell: &[u8]) -> Result<Vec<u8>, AllocError>
+pub(crate) fn marks_of(alloc: Global, cell: &[u8]) -> Result<Vec<u8>, AllocError>
     ensures { IfOk result (λ marks. marks.items ≡ dates.marks cell.now) }
 {
     cell.iter().copied().filter(|b| is_mark(*b)).collect(alloc)
@@ -312,7 +312,7 @@ fn is_day_month(a: &[u8], m: u8, b: &[u8]) -> bool
 }
 
 /// One or two digits.
-fn is_short(part: &[u8]) -> bool
+pub(crate) fn is_short(part: &[u8]) -> bool
     ensures { result ≡ dates.is_short part.now }
 {
     are_digits(part, 1, 2)
@@ -332,14 +332,14 @@ fn are_letters(part: &[u8]) -> bool
     3 <= part.len() && part.len() <= 9 && only_letters(part)
 }
 
-fn only_letters(part: &[u8]) -> bool
+pub(crate) fn only_letters(part: &[u8]) -> bool
     ensures { result ≡ dates.only_letters part.now }
 {
     part.iter().all(|b| b.is_ascii_alphabetic())
 }
 
 /// What stands between the numbers of a date.
-fn is_between(mark: u8) -> bool
+pub(crate) fn is_between(mark: u8) -> bool
     ensures { result ≡ dates.is_between mark }
 {
     mark == b'/' || mark == b'.' || mark == b'-'

@@ -67,7 +67,7 @@ pub(crate) fn number_in(field: &str) -> Result<u32, RefusalKind>
 
 /// The item of a cell, which may have `.0` or `,0` at its end.
 #[tactic(auto, unfolding(commands::specs::Rows::item_in))]
-pub(crate) fn item_in(cell: &str) -> Result<Item, RefusalKind>
+pub fn item_in(cell: &str) -> Result<Item, RefusalKind>
     ensures { result ≡ rows.item_in (digits.whole cell.now) }
 {
     let number = number_in(whole(cell))?;

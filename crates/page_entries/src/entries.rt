@@ -186,7 +186,7 @@ fn with_mentions(
 }
 
 /// The kind of a word in letters of either case.
-fn kind_in(alloc: Global, cell: &str) -> Result<Option<EntryKind>, AllocError>
+pub fn kind_in(alloc: Global, cell: &str) -> Result<Option<EntryKind>, AllocError>
     ensures { IfOk result (λ found. found ≡ known.kind_in cell.now) }
 {
     let word = cell.to_ascii_uppercase(alloc)?;
@@ -194,7 +194,7 @@ fn kind_in(alloc: Global, cell: &str) -> Result<Option<EntryKind>, AllocError>
 }
 
 /// The cell of a row under a column.
-fn cell_under<'a>(sheet: &Sheet, row: &'a SheetRow, column: Column) -> &'a str
+pub fn cell_under<'a>(sheet: &Sheet, row: &'a SheetRow, column: Column) -> &'a str
     ensures { result.now ≡ known.cell_under sheet.now row.now column }
 {
     under(column, sheet.columns(), row.cells.fields())

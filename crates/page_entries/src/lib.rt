@@ -5,7 +5,8 @@
 //! for tokens.
 //!
 //! Callers may rely on: the entries are those of all rows, in their order, or the first fault is named with its row,
-//! its column and its cell. A place is a number, a token or a path; whether there is one is not asked.
+//! its column and its cell. A place is a number, a token or a path; whether there is one is not asked. What a cell
+//! means, and what is wrong with it, can be asked of each cell.
 #![tactic(auto)]
 
 mod checks;
@@ -13,9 +14,14 @@ mod dates;
 mod digits;
 mod entries;
 mod months;
+mod pages;
 mod places;
 mod under;
 
-pub use dates::{DateOrder, PageDate};
-pub use entries::{PageEntry, read_page};
-pub use places::PagePlace;
+pub use checks::{role_fault, text_fault};
+pub use dates::{DateOrder, PageDate, date_in};
+pub use digits::item_in;
+pub use entries::{PageEntry, cell_under, kind_in, read_page};
+pub use pages::is_doubtful_page;
+pub use places::{PagePlace, place_in};
+pub use under::{cell_at, mentions_in};

@@ -23,7 +23,7 @@ pub enum PagePlace {
 
 /// The place that a cell names; none if it is empty.
 #[tactic(auto, unfolding(crate::specs::Places::place_in))]
-pub(crate) fn place_in(
+pub fn place_in(
     alloc: Global,
     cell: &str,
 ) -> Result<Result<Option<PagePlace>, FaultKind>, AllocError>

@@ -33,7 +33,7 @@ fn is_column(found: Option<Column>, column: Column) -> bool
 }
 
 /// The cell at a place; empty where there is none.
-pub(crate) fn cell_at(cells: &[Field], at: usize) -> &str
+pub fn cell_at(cells: &[Field], at: usize) -> &str
     ensures { result.now ≡ known.cell_at cells.now at }
 {
     match cells.get(at) {
@@ -43,7 +43,7 @@ pub(crate) fn cell_at(cells: &[Field], at: usize) -> &str
 }
 
 /// The names under roles, in the order of the columns: 1 to 100.
-pub(crate) fn mentions_in(
+pub fn mentions_in(
     alloc: Global,
     columns: &[Column],
     cells: &[Field],

@@ -1,0 +1,5 @@
+mod Dated
+mod Gathered
+mod Listed
+mod Said
+mod Twice

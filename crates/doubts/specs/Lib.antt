@@ -1,0 +1,4 @@
+pub mod Doubts
+pub mod Facts
+pub mod Gathered
+pub mod Spanned

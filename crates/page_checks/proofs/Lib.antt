@@ -1,0 +1,4 @@
+pub mod Checked
+pub mod Keyed
+mod Refused
+pub mod Unblamed

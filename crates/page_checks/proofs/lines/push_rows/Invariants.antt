@@ -1,0 +1,7 @@
+use Rattle.std.proofs.Common.{◌≡◌, ◌++◌, take, string_bytes}
+use Rattle.std.specs.List.{flat_map}
+use Rattle.page_checks.specs.Lines.{row_lines}
+use Rattle.page_checks.proofs.lines.push_rows.Given as goal
+
+abbrev pub invariant-each : goal.invariant-each
+invariant-each l = string_bytes l.out ≡ string_bytes l.fn.out ++ flat_map row_lines (take l.row-index l.rows)

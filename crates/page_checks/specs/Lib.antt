@@ -1,0 +1,9 @@
+pub mod Answers
+pub mod Cells
+pub mod Findings
+pub mod Keys
+pub mod Laws
+pub mod Lines
+pub mod Page
+pub mod Rows
+pub mod Unread
