@@ -18,7 +18,6 @@ use Rattle.std.proofs.Common.{
   ◌++◌,
   codes,
   flat_map,
-  string_bytes,
   ap,
   sym,
   ◌∙◌,
@@ -34,7 +33,7 @@ use Rattle.html_text.specs.declared.names.VoidElement.{VoidElement}
 use Rattle.html_text.specs.declared.names.VoidElement.TheVariants as void
 use Rattle.html_text.specs.declared.names.Name.{Name}
 use Rattle.html_text.specs.declared.names.Name.TheVariants as name
-use Rattle.html_text.specs.declared.page.Attribute.{Attribute}
+use Rattle.html_text.specs.Model.{Attribute}
 use Rattle.html_text.specs.Names.{element_word, name_word, void_word}
 use Rattle.html_text.specs.Escapes.{escaped}
 use Rattle.html_text.specs.Marks.{is_no_mark}
@@ -131,11 +130,11 @@ joined : (xs ys : List ℕ) → list_all stays xs ≡ true → list_all stays ys
 joined xs ys h k = list_all-append stays xs ys ∙ both (list_all stays xs) (list_all stays ys) h k
 
 attribute_stays : (a : Attribute) → list_all stays (attribute_text a) ≡ true
-attribute_stays a = joined (codes " " ++ name_word a.name ++ codes "=\"" ++ escaped (string_bytes a.value)) (codes "\"")
-    (joined (codes " " ++ name_word a.name ++ codes "=\"") (escaped (string_bytes a.value))
+attribute_stays a = joined (codes " " ++ name_word a.name ++ codes "=\"" ++ escaped a.value) (codes "\"")
+    (joined (codes " " ++ name_word a.name ++ codes "=\"") (escaped a.value)
     (joined (codes " " ++ name_word a.name) (codes "=\"")
     (joined (codes " ") (name_word a.name) refl (name_stays a.name)) refl)
-    (unmarked (escaped (string_bytes a.value)) (whole (chars (string_bytes a.value))))) refl
+    (unmarked (escaped a.value) (whole (chars a.value)))) refl
 
 attributes_stay : (given : List Attribute) → list_all stays (flat_map attribute_text given) ≡ true
 attributes_stay [] = refl

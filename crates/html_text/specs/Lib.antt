@@ -1,3 +1,4 @@
+pub mod Model
 pub mod Escapes
 pub mod Names
 pub mod Pages

@@ -1,8 +1,8 @@
 -- The tags of a page (HTML Living Standard, section 13.1.2 "Elements").
-use Rattle.std.specs.Prelude.{ℕ, List, ◌++◌, codes, flat_map, string_bytes}
+use Rattle.std.specs.Prelude.{ℕ, List, ◌++◌, codes, flat_map}
 use Rattle.html_text.specs.declared.names.Element.{Element}
 use Rattle.html_text.specs.declared.names.VoidElement.{VoidElement}
-use Rattle.html_text.specs.declared.page.Attribute.{Attribute}
+use Rattle.html_text.specs.Model.{Attribute}
 use Rattle.html_text.specs.Names.{element_word, name_word, void_word}
 use Rattle.html_text.specs.Escapes.{escaped}
 
@@ -11,7 +11,7 @@ doctype = codes "<!DOCTYPE html>\n"
 
 -- a name and a value in quotes
 abbrev pub attribute_text : Attribute → List ℕ
-attribute_text a = codes " " ++ name_word a.name ++ codes "=\"" ++ escaped (string_bytes a.value) ++ codes "\""
+attribute_text a = codes " " ++ name_word a.name ++ codes "=\"" ++ escaped a.value ++ codes "\""
 
 abbrev pub tag : List ℕ → List Attribute → List ℕ
 tag word attributes = codes "<" ++ word ++ flat_map attribute_text attributes ++ codes ">"

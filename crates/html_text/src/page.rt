@@ -15,6 +15,18 @@ pub struct Attribute {
     pub value: String,
 }
 
+impl Model for Attribute {
+    ghost use Rattle.std.specs.Prelude.{string_bytes};
+    ghost use Rattle.std.specs.Coded.{codes};
+    ghost use Rattle.html_text.specs.Model as model;
+
+    ghost Value = { model.Attribute };
+
+    ghost coded = { Prim.hlevel codes };
+
+    ghost view = { λ a. record { name = a.name; value = string_bytes a.value } };
+}
+
 /// The text of a page, so far. Contracts see it as its bytes.
 #[derive(Debug, Drop)]
 pub struct Page {
@@ -30,7 +42,7 @@ impl Model for Page {
 }
 
 impl Page {
-    /// A page that has only its doctype. Refused only for want of memory, as are all calls.
+    /// A page that has only its doctype. Refused only if out of memory, as are all calls.
     pub fn new(alloc: Global) -> Result<Page, AllocError>
         ensures { IfOk result (λ p. p ≡ doctype) }
     {

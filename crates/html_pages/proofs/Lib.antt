@@ -1,0 +1,4 @@
+pub mod Belonging
+pub mod Framed
+pub mod Leading
+pub mod LeadingUp

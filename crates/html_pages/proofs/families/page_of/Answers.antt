@@ -1,0 +1,13 @@
+use Rattle.std.proofs.Common.{◌∙◌}
+use Rattle.list_laws.proofs.Outcomes.{ok_more}
+use Rattle.sheets.specs.Gathered.{gathered}
+use Rattle.html_pages.specs.Pages.{family_parts, family_title}
+use Rattle.html_pages.proofs.Framed.{framed_is}
+use Rattle.html_pages.proofs.families.page_of.Goals as goal
+
+pub returns : goal.returns
+returns c = ok_more _ _ (λ page e. framed_is c.args.society.now c.as_str.result.now (family_title c.args.number)
+    c.new-main.result c.push_family.new.out
+    (family_parts (gathered c.args.library.now.records) c.args.number c.args.family.now) page
+    (c.as_str.ensures.value ∙ c.in_ok-title.ensures) c.new-main.ensures c.in_ok-push_family.ensures e)
+    c.page_with.result c.page_with.ensures
