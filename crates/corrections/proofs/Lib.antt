@@ -1,0 +1,6 @@
+mod Changing
+mod Outcomes
+mod Positions
+mod Repeated
+mod Same
+mod Words

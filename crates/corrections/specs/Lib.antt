@@ -1,0 +1,4 @@
+pub mod Corrections
+pub mod Fields
+pub mod Laws
+pub mod Lists
