@@ -93,7 +93,7 @@ room_there m (p ∷ puts) = (
   room_there (with_blank m p.number) puts,
 )
 
--- two maps that differ at the numbers that are put alone
+-- two maps that differ only at the numbers that are put
 put_alike : (puts : List Numbered) (m other : Records) → ((q : ℕ) → IsApart q puts → get other q ≡ get m q)
     → with_puts other puts ≡ with_puts m puts
 put_alike [] m other alike = same_map nat_cmp_total nat_cmp-IsAntisymmetric _ _ (λ q. alike q tt)
@@ -125,7 +125,7 @@ pub each_stays : (m : Records) (n : ℕ) (r : Record) (puts : List Numbered) →
     → EachOf (IsThereFor (insert m n r)) puts
 each_stays m n r puts = each_more (IsThereFor m) (IsThereFor (insert m n r)) (λ p. put_stays m n r p.number) puts
 
--- ---- a blank record is taken out again
+-- ---- a blank record is removed again
 is_none : (o : Option Record) → is_some o ≡ false → o ≡ None
 is_none None e = refl
 is_none (Some r) e = absurd cc

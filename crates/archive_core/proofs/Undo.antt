@@ -20,7 +20,7 @@ module _ {X : Type 0} where
       ∙ ap (cond (eq_by_cmp nat_cmp q n) (Some old)) (get-insert nat_cmp_total m n v q)
       ∙ at_once (eq_by_cmp nat_cmp q n) v (Some old) (get m q) (λ t. ap (get m) (one_number q n t) ∙ e))
 
-  -- what was not there is taken out
+  -- what was not there is removed
   pub taken_out : (m : FinMap nat_cmp X) (n : ℕ) (v : X) → get m n ≡ None → remove (insert m n v) n ≡ m
   taken_out m n v e = same_map nat_cmp_total nat_cmp-IsAntisymmetric _ _ (λ q.
       get-remove nat_cmp_total (insert m n v) n q

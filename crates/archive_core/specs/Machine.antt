@@ -38,7 +38,7 @@ served c r (Some receipt) = answered_again c (digest_of r.command) receipt
 abbrev pub outcome : Content → Request → Step
 outcome c r = served c r (get c.receipts r.token)
 
--- a request with this answer or refusal leaves that; a refusal changes nothing, and want of memory may come in place of
+-- a request with this answer or refusal leaves that; a refusal changes nothing, and out of memory may come in place of
 -- any
 abbrev pub Does : Content → Request → Result Answer Refusal → Content → Type 0
 Does c r (Ok answer) after = outcome c r ≡ Ok (after, answer)

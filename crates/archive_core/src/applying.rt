@@ -15,9 +15,9 @@ use record_kinds::{Person, Record};
 use std::alloc::{AllocError, Global};
 use std::collections::VecDeque;
 
-/// Makes the changes of a request, and answers its answer. Refused only for want of memory, and then nothing is
+/// Makes the changes of a request, and answers its answer. Refused only if out of memory, and then nothing is
 /// changed. What takes memory comes first: a blank record wherever a new one will be, then the slip and the receipt.
-/// Where one of these is refused, the blank records are taken out again. What comes last takes no memory: the records,
+/// Where one of these is refused, the blank records are removed again. What comes last takes no memory: the records,
 /// the removals and the next number. So any number of records is put with the same stack.
 #[tactic(auto, using(crate::proofs::Room::put_in_room))]
 pub fn apply(alloc: Global, state: &mut State, changes: Changes) -> Result<Answer, AllocError>

@@ -45,7 +45,7 @@ fn decide_over(alloc: Global, state: &State, request: &Request) -> Result<Change
 /// What a request changes, and its answer. A request whose token is kept is answered from what is kept, and refused
 /// where its command is another (`TokenReused`). Else the first check that fails gives the refusal: first the texts
 /// (`BadText`), then each number in the order of its field (`NoSuch`, `WrongKind`, and `BadText` for a place whose path
-/// has empty parts alone), then what is the command's own (`SamePerson`, `AlreadyInFamily`, `NotOfKind`), and last
+/// has only empty parts), then what is the command's own (`SamePerson`, `AlreadyInFamily`, `NotOfKind`), and last
 /// whether a number is left (`Full`). Of a batch of register entries the source is looked at first, and then each row
 /// so, after the rows before it: the first refusal is the batch's, with the place of its row, and the source's has
 /// none. Of an import it is first whether two entries of the file have one key (`DuplicateEntry`, at the line of the

@@ -206,7 +206,7 @@ none_to k (l ∷ ls) e = (
   none_to k ls (or_parts (l.0 == k) (is_among k ls) e).1,
 )
 
--- a record that no other names may be taken out
+-- a record that no other names may be removed
 pub less_keeps : (c : Content) (k : ℕ) → IsSound c
     → EachIn c.records (λ n r. (n ≡ k → ⊥) → is_among k (links r) ≡ false)
     → IsSound (record c { records = remove c.records k })

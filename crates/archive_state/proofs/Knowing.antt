@@ -1,4 +1,4 @@
--- What lines say of the numbers on them depends on what is known of these numbers alone.
+-- What lines say of the numbers on them depends on what is known only of these numbers.
 use Rattle.std.proofs.Common.{◌≡◌, ℕ, List, [], ◌∷◌, ◌++◌, Bool, true, false, refl, sym, ap, ◌∙◌, cond}
 use Rattle.std.specs.Prelude.{Option, Some, None, option_map, IfSome, codes, bytes_eq, length, nat_le, map, ◌&&◌}
 use Rattle.std.specs.List.{filter, list_all, flat_map}

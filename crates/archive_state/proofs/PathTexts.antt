@@ -1,4 +1,4 @@
--- The path of a place below another: it is normal where both texts are, and the name alone is within the limits where
+-- The path of a place below another: it is normal where both texts are, and only the name is within the limits where
 -- the path is.
 use Rattle.std.proofs.Common.{
   ◌≡◌,

@@ -1,4 +1,4 @@
--- The path of a place asks for what stands below its number alone.
+-- The path of a place asks for what stands only below its number.
 use Rattle.std.proofs.Common.{refl, List, ap, ◌≡◌, ℕ, true, ◌<◌, nat_lt, false, zero, arith, suc, ◌∙◌, ◌+◌}
 use Rattle.std.specs.Prelude.{None, if◌then◌else◌, Some, Option, option_map}
 use Rattle.std.proofs.lemmas.Bool.{ltb-true}

@@ -14,7 +14,7 @@ abbrev pub with_puts : Records → List Numbered → Records
 with_puts m [] = m
 with_puts m (put ∷ puts) = with_puts (insert m put.number put.«record») puts
 
--- the records of these numbers are taken out
+-- the records of these numbers are removed
 abbrev pub without : Records → List ℕ → Records
 without m [] = m
 without m (n ∷ ns) = without (remove m n) ns

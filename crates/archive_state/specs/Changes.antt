@@ -10,7 +10,7 @@ pub record Batch : Type 0 where
   pub records : List Numbered
   pub next : ℕ
 
--- numbers with their new records; numbers whose records are taken out; the next number; the answer; what is kept of the
+-- numbers with their new records; numbers whose records are removed; the next number; the answer; what is kept of the
 -- request, where it was accepted anew; the slip that is made or undone
 pub record Changes : Type 0 where
   pub puts : List Numbered

@@ -45,6 +45,6 @@ path_of m n = path_by (n + 1) m n
 abbrev pub known_of : Records → Known
 known_of m = record { tag = λ n. tag_at (get m n); path = path_of m }
 
--- the same, with the paths of the places before a number alone
+-- the same, only with the paths of the places before a number
 abbrev pub known_before : Records → ℕ → Known
 known_before m k = record { tag = λ n. tag_at (get m n); path = λ n. if nat_lt n k then path_of m n else None }

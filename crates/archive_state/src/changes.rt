@@ -54,7 +54,7 @@ pub enum SlipChange {
 pub struct Changes {
     /// The changed numbers with their new records.
     pub puts: Vec<Numbered>,
-    /// The numbers whose records are taken out.
+    /// The numbers whose records are removed.
     pub removals: Vec<u32>,
     /// The next number after it.
     pub next: u64,

@@ -13,7 +13,7 @@ pub struct Change {
     pub number: u32,
     /// The record of before.
     pub old: Record,
-    /// The record of after; none where it was taken out.
+    /// The record of after; none where it was removed.
     pub new: Option<Record>,
 }
 

@@ -118,7 +118,7 @@ new_is_exact c r changes e =
       slip = λ _. tt;
     })
 
--- one record is taken out, where one is
+-- one record is removed, where one is
 pub removal_is_exact : (c : Content) (n next : ℕ) (a : Answer) (changes : Changes)
     → changes ≡ record { puts = []; removals = n ∷ []; next = next; answer = a; kept = None; slip = None }
     → get c.records n ≢ None → IsExact c changes

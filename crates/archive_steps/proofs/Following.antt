@@ -250,7 +250,7 @@ place_follows W c name parent given fit = elim (nat_le c.next 4_294_967_295) as 
       | false ↦ λ e. tt
     ] refl
 
--- a record is taken out
+-- a record is removed
 removes_draws : (c : Content) (n : ℕ) → Draws c (record { first = 0; count = 0 })
     (record c { records = remove c.records n })
 removes_draws c n = (omega arith, inr (refl, refl), λ k low high. absurd (omega arith))

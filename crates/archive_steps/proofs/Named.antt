@@ -1,4 +1,4 @@
--- A record that no other names may be taken out.
+-- A record that no other names may be removed.
 use Rattle.std.proofs.Common.{◌≡◌, ℕ, List, [], ◌∷◌, Bool, true, false, not, ◌==◌, refl, sym, ap, ◌∙◌, cond, arith}
 use Rattle.std.specs.Prelude.{Option, Some, None, map}
 use Rattle.std.specs.Cmp.{nat_cmp_total, ranked}

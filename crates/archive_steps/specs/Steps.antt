@@ -347,7 +347,7 @@ unlink_mention c n k =
     and_then (entry_at c n) (λ e.
     relinked c n e k None)
 
--- one that names itself alone can be removed
+-- one that only names itself can be removed
 abbrev pub remove_record : Content → ℕ → RowStep
 remove_record c n =
     and_then (record_at c n) (λ _.

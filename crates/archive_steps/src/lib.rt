@@ -5,7 +5,7 @@
 //! in it, and `commands` for the commands.
 //!
 //! Callers may rely on: `decide_row` over any view answers the changes that, made, are the step of the definitions, or
-//! its refusal, and changes nothing itself; and the changes are of what differs alone.
+//! its refusal, and changes nothing itself; and the changes are only of what differs.
 #![tactic(auto)]
 
 mod entries;

@@ -16,7 +16,7 @@ use record_kinds::Record;
 use record_text::RefusalKind;
 use std::alloc::Global;
 
-/// The record of a number is taken out, where no other names it.
+/// The record of a number is removed, where no other names it.
 pub(crate) fn remove_record<V: View>(
     alloc: Global,
     view: &mut V,

@@ -116,7 +116,7 @@ pub ascend_from : (next n : ℕ) (s : Slip) → EachOf (IsNumber next) (all_numb
     → Ascends (0 ∷ changed s.changes)
 ascend_from next n s h asc = (from_one next s.changes h.1.1.1, asc)
 
--- what stands at the number, told
+-- what stands at the number, said
 pub joinable_there : (m : Records) (keep gone n : ℕ) (r : Record) (b : Bool) → Some r ≡ get m n
     → b ≡ clashes keep gone r → Decides (not b) (IsJoinableAt m keep gone n)
 joinable_there m keep gone n r b is clash = (

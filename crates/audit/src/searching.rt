@@ -17,7 +17,7 @@ use std::alloc::{AllocError, Global};
 const NUMBERS: u64 = 4_294_967_296;
 
 /// What breaks the rule of a sound archive: records first, as `sound_records` has them, and then slips by their
-/// numbers. `None`: nothing does. Refused only for want of memory.
+/// numbers. `None`: nothing does. Refused only if out of memory.
 pub fn first_fault(alloc: Global, state: &State) -> Result<Option<Fault>, Refusal>
     ensures found { IfOk result (λ o. MatchOption o (IsSound state.now) (faults.IsFault state.now)) }
     ensures unsound { IfOk result (λ o. IfSome o (λ f. ¬ (IsSound state.now))) }
@@ -54,7 +54,7 @@ fn is_next(next: u64) -> bool
     0 < next && next <= NUMBERS
 }
 
-/// Whether the state is sound. Refused only for want of memory.
+/// Whether the state is sound. Refused only if out of memory.
 pub fn sound(alloc: Global, state: &State) -> Result<bool, Refusal>
     ensures sound { IfOk result (λ b. IsTrue b ↔ IsSound state.now) }
     ensures refused { IfErr result (λ e. e ≡ record { kind = refusal.OutOfMemory; at = None }) }

@@ -2,7 +2,7 @@
 //!
 //! It uses `record_shapes`, whose tables it decides, and `stored_lines`, whose lines it looks at.
 //!
-//! Callers may rely on: each function answers exactly the row of its table, and takes no memory but where it hands on
+//! Callers may rely on: each function answers exactly the row of its table, and takes no memory but where it passes on
 //! a text of a place made normal.
 #![tactic(auto)]
 

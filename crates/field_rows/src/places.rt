@@ -17,7 +17,7 @@ use record_text::Text;
 use std::alloc::{AllocError, Global};
 use stored_lines::Carried;
 
-/// Below a place, the line that names the place above it. Known are the paths of the places before it alone.
+/// Below a place, the line that names the place above it. Known are only the paths of the places before it.
 pub fn parent_field<K: Known>(known: &K, name: &str, line: &Carried) -> Field
     ensures { result ≡ fields.parent_field (K.known known.now) name.now line.now }
 {

@@ -1,4 +1,4 @@
--- Nodes of a file in a row, told as lines and read as drafts.
+-- Nodes of a file in a row, as lines, and read as drafts.
 use Rattle.std.proofs.Common.{
   ◌≡◌,
   ℕ,

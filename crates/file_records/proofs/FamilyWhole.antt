@@ -194,7 +194,7 @@ module _ (ks : List FileNode) (k : ℕ) (is_family : bytes_eq (tag_at (roots ks)
       carried_is ks n k (and_parts (bytes_eq (tag_at (roots ks) n) (codes "INDI")) _ p.0).0
       ∙ ap (λ m. side_of (roots ks) (fit_tag m) k n) (unnamed (named_in ks k n) p.1)
 
-  -- children by the person alone
+  -- children only by the person
   abbrev told_child : ℕ → model.Child
   told_child n = record { person = n; carried = []; carried_by_person = carried_at ks (line_among (sides_of ks k)) n }
 

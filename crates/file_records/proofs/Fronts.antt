@@ -1,4 +1,4 @@
--- Nodes in a row, told as trees: the first of those that are left, and those after it.
+-- Nodes in a row, as trees: the first of those that are left, and those after it.
 use Rattle.std.proofs.Common.{◌≡◌, ℕ, ◌+◌, ◌<◌, List, ◌∷◌, length, drop, get_or, ap}
 use Rattle.gedcom_tree.specs.declared.node.Node.{Node}
 use Rattle.import_definitions.specs.Nodes.{tree_of, trees_of}

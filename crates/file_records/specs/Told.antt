@@ -23,7 +23,7 @@ position_in place (Pointer name) = place name
 abbrev pub named : List FileNode → List ℕ → FileLine → Option ℕ
 named ks tag l = with_tag (roots ks) tag (position_in (place_in ks) l.value)
 
--- what is told where a record of the right kind is named
+-- what is known where a record of the right kind is named
 abbrev pub told_as : Bool → Option ℕ → Option Told
 told_as as_partner None = None
 told_as as_partner (Some k) = Some (record { other = k; as_partner = as_partner })

@@ -33,7 +33,7 @@ fn named(roots: &Roots<'_>, kind: Named, line: &Node) -> Option<usize>
     }
 }
 
-/// What is told where a node of the right kind is named.
+/// What is known where a node of the right kind is named.
 fn told_as(other: Option<usize>, as_partner: bool) -> Option<Told>
     ensures { result ≡ told.told_as as_partner other }
 {

@@ -97,7 +97,7 @@ pub fn a_published_import_leaves_the_rows_of_other_numbers()
     an_import_leaves_the_rows_of_other_numbers();
 }
 
-/// It can be taken out again: its batch is not closed, its numbers have no record, and its links are from these.
+/// It can be removed again: its batch is not closed, its numbers have no record, and its links are from these.
 pub fn an_import_that_is_begun_can_be_taken_out()
     ensures { (before rows : Rows) (i : Import) (c : Content) → IsBegun before i rows
         → IsFresh i.batch i.changes.puts before → IsAddition c i.changes → Means before c
@@ -109,7 +109,7 @@ pub fn an_import_that_is_begun_can_be_taken_out()
     links_of_an_import_are_from_its_numbers();
 }
 
-/// When it is taken out, the rows are those of before, where no link was there before.
+/// When it is removed, the rows are those of before, where no link was there before.
 pub fn an_import_that_is_taken_out_leaves_what_was()
     ensures { (before rows : Rows) (i : Import) (c : Content) → (begun : IsBegun before i rows)
         → AreWrittenAnew before i rows begun

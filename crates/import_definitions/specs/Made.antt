@@ -94,6 +94,6 @@ made_of next archive ks =
     let w : Places = places archive rs in
     unless_second ks (second rs 0 [] rs) (unless_full w (drawing next w rs))
 
--- of what an archive holds, the next number and the places alone count
+-- of what an archive holds, only the next number and the places count
 unfoldable pub made : Content → List Item → Result Batch Refusal
 made c f = made_of c.next (lowest_place c.records) (kept (candidates f))

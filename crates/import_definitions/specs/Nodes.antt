@@ -15,14 +15,14 @@ use Rattle.gedcom_tree.specs.declared.node.Node.{Node}
 use Rattle.gedcom_tree.specs.declared.node.Node.TheOpen.{Node-F}
 use Rattle.gedcom_tree.specs.declared.node.Node.TheFolds.{fold-Node}
 
--- what stands on the line that a node begins with, and the number of that line; how deep it stands is told by the tree
+-- what stands on the line that a node begins with, and the number of that line; how deep it stands is said by the tree
 pub record FileLine : Type 0 where
   pub line : ℕ
   pub xref : Option (List ℕ)
   pub tag : List ℕ
   pub value : Meaning
 
--- the code by which lines are told apart
+-- the code by which lines are distinguished
 abbrev pub meaning_in : Meaning → List ℕ ⊎ List ℕ
 meaning_in (Text t) = inl t
 meaning_in (Pointer p) = inr p

@@ -58,7 +58,7 @@ abbrev pub position_of : List ℕ → ℕ → List (Option (List ℕ)) → Optio
 position_of path k [] = None
 position_of path k (p ∷ ps) = if has_path path p then Some k else position_of path (k + 1) ps
 
--- what is known of all records; with the paths of the places before a position alone
+-- what is known of all records; with only the paths of the places before a position
 abbrev pub known : Lines → Known
 known rs = known_by rs (paths rs)
 

@@ -1,6 +1,6 @@
 -- Both sides of memberships (The GEDCOM Standard Release 5.5.1, chapter 2, FAM_RECORD, CHILD_TO_FAMILY_LINK and
 -- SPOUSE_TO_FAMILY_LINK): a family names its members by HUSB, WIFE and CHIL, and a person the families by FAMC and
--- FAMS. What becomes of a membership that one side has alone is a rule of our own.
+-- FAMS. What becomes of a membership that only one side has is a rule of our own.
 use Rattle.std.specs.Prelude.{
   ℕ,
   ◌+◌,

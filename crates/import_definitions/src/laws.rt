@@ -11,7 +11,7 @@ ghost use Rattle.archive_state.specs.Paths.{HasPath, IsLowest};
 ghost use Rattle.import_definitions.specs.Made.{lowest_place};
 
 /// The nodes that become records are the greatest set of nodes in which each whose value counts and is a pointer
-/// names one of the set. There is one such set alone.
+/// names one of the set. There is only one such set.
 pub fn kept_nodes_are_the_greatest_set()
     ensures greatest { (ts : List FileNode) → IsGreatest ts (is_kept ts) }
     ensures one { (ts : List FileNode) (P : FileNode → Bool) → IsGreatest ts P → kept ts ≡ filter P ts }

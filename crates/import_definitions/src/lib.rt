@@ -6,7 +6,7 @@
 //!   report.
 //!
 //! Callers may rely on:
-//! - which nodes become records depends on the forest alone; a node that points at another at level 0 is kept exactly
+//! - which nodes become records depends only on the forest; a node that points at another at level 0 is kept exactly
 //!   where that one is; no line is left out without a line of the report.
 #![tactic(auto)]
 

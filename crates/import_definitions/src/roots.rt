@@ -91,7 +91,7 @@ impl<'a> Roots<'a> {
         self.kinds.as_slice()
     }
 
-    /// The position of the node with a cross reference, told with its two `@`.
+    /// The position of the node with a cross reference, given with its two `@`.
     pub fn position(&self, name: &str) -> Option<u32>
         ensures { result ≡ place_in self.now name.now }
     {

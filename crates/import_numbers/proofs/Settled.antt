@@ -50,7 +50,7 @@ module _ (w : numbers.Places) (before : Option ℕ) (k : ℕ) (t : List ℕ) (d 
     below part after e h = made_by (trimmed part) (names_of after) (names_cut t part after e h)
         ∙ ap (λ y. made_within (normal t) y (settle w (Some k) k (names_of after) d)) (sym (normal_alone part h))
 
--- by the place made of the path alone it is found as by those of all paths
+-- by the place made only of the path it is found as by those of all paths
 pub find_same : (w : numbers.Places) (before : Option ℕ) (f : List ℕ → Option ℕ) (made : Option ℕ) (p q : List ℕ)
     → p ≡ q → made ≡ f q → find w before (λ x. made) p ≡ find w before f q
 find_same w before f made p q e h = ap (find w before (λ x. made)) e ∙ ap (λ v. find w before (λ x. v) q) h

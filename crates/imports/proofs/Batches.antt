@@ -1,4 +1,4 @@
--- The batch of drafts, told as that of a forest.
+-- The batch of drafts, written as that of a forest.
 use Rattle.std.proofs.Common.{◌≡◌, ℕ, List, Option, Some, None, Result, Err, ap, sym, ◌∙◌, true, false, refl, inl, inr}
 use Rattle.std.specs.BTreeMap.{BTreeMap}
 use Rattle.std.specs.Global.{Global}

@@ -1,4 +1,4 @@
--- Lines that are left once the fields of a part are taken out: no field would take them.
+-- Lines that are left once the fields of a part are removed: no field would take them.
 use Rattle.std.proofs.Common.{◌≡◌, Bool, true, false, cond, List, [], ◌∷◌, refl, sym, ap, ◌∙◌}
 use Rattle.std.specs.Prelude.{Option, Some, None, IfSome, option_map, ◌&&◌}
 use Rattle.std.specs.List.{list_all}

@@ -68,7 +68,7 @@ PlaceIs known None n = (q : List ℕ) × (known.path n ≡ Some q) × (has_part 
 PlaceIs known (Some q) n = IsPath q
 
 -- the links of a record that is read, with its owner and the path by which its place is sought; an event or a citation
--- alone has an owner
+-- has an owner by itself
 abbrev pub NamesAll : Known → ℕ → Option Record → Option (List ℕ) → Record → Type 0
 NamesAll known count o path (kind.Event e) =
     OwnerIs a_holder o

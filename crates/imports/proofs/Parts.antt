@@ -9,7 +9,7 @@ use Rattle.import_definitions.specs.Reports.{said_of_roots}
 use Rattle.import_definitions.specs.Roots.{candidates, kept}
 use Rattle.import_definitions.specs.Report.{in_order, report, said_of_lines, said_of_members}
 
--- a part that is told in other words, and one after it
+-- a part that is said in other words, and one after it
 pub two_parts : {X : Type 0} {a b : List X} (old last mid new : List X) → a ≡ b → mid ≡ old ++ a → new ≡ mid ++ last
     → new ≡ old ++ (b ++ last)
 two_parts {X = X} {a = a} {b = b} old last mid new same one two =

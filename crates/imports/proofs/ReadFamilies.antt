@@ -142,7 +142,7 @@ own_members known ts =
     ++ sym (map_by (λ (c : model.Child). c.person) child_from number_of (λ t. refl) (filter is_child_line ms)) i)
     (once_apart number_of is_child_line ms (once_seen [] (all_of (family_field known) a_member ts)))
 
--- ---- with those that name it alone
+-- ---- with those that only name it
 below_all : (n : ℕ) → EachOf (λ k. k < n) (positions n)
 below_all zero = tt
 below_all (suc n) = each_both (λ k. k < suc n) (positions n) (n ∷ [])
@@ -161,7 +161,7 @@ positions_once (suc n) = once_both (positions n) (n ∷ []) (positions_once n) (
         let other : (k == n) ≡ false = grind (arith, nat_tests) in
         or_none (k == n) (has n ks) other (none_yet n ks h.1)
 
--- with both sides the members are those of its own lines, and then those that name it alone
+-- with both sides the members are those of its own lines, and then those that only name it
 members_are : (rs : Lines) (k : ℕ) (f : model.Family) → members (family_with_sides rs k f) ≡ members f ++ late rs k f
 members_are rs k f =
     let ps : List ℕ = map (λ (p : model.Partner). p.person) f.partners in

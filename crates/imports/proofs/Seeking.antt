@@ -1,4 +1,4 @@
--- What the nodes of a file are read as seeks places by paths alone.
+-- What the nodes of a file are read as seeks places only by paths.
 use Rattle.std.proofs.Common.{◌≡◌, ℕ, ◌+◌, Bool, true, false, not, cond, List, [], ◌∷◌, ◌++◌, refl, ap, ◌∙◌, arith}
 use Rattle.std.specs.Prelude.{Option, Some, None, IfSome, option_map, ◌&&◌, bytes_eq, codes, map}
 use Rattle.std.specs.List.{flat_map}

@@ -40,8 +40,8 @@ pub fn batch_of<V: View>(
     Ok((batch, report))
 }
 
-/// What is reported of a forest: it depends on the forest alone. It is refused where an empty archive does not take the
-/// forest, as `batch_of`, and for want of memory.
+/// What is reported of a forest: it depends only on the forest. It is refused where an empty archive does not take the
+/// forest, as `batch_of`, and if out of memory.
 #[tactic(auto, using(crate::proofs::Batches::unreported))]
 pub fn report_of(alloc: Global, forest: &Forest) -> Result<Report, Refusal>
     ensures told { IfOk result (λ r. r ≡ report_of forest.now) }

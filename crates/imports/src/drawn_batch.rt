@@ -51,7 +51,7 @@ pub fn batch_of_drafts<V: View>(
     finished_batch(alloc, view, &mut looks, file, &mut drawing)
 }
 
-/// The batch, once all numbers are drawn. What they were drawn for is taken out.
+/// The batch, once all numbers are drawn. What they were drawn for is removed.
 fn finished_batch<V: View>(
     alloc: Global,
     view: &mut V,

@@ -66,7 +66,7 @@ pub fn a_file_has_no_more_nodes_than_lines()
     ensures { (f : List Item) → length (kept (candidates f)) ≤ length f }
 {}
 
-/// What the nodes of a file are read as seeks places by paths alone.
+/// What the nodes of a file are read as seeks places only by paths.
 pub fn the_drafts_of_a_file_seek_by_paths()
     ensures { (ks : List FileNode) → AreInFile ks
         → EachOf SeeksByPaths (drafts_from (roots_in ks) 0 (roots_in ks)) }

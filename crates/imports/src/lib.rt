@@ -12,7 +12,7 @@
 //! Callers may rely on:
 //! - each entry is looked for once among the keys of those before it.
 //! - numbers are drawn in the order of the lines; a draft is moved, and no text of it is copied but the paths of
-//!   places; of a view `place_at` alone is called.
+//!   places; of a view only `place_at` is called.
 //! - the batch is that of `made` of `import_definitions`, and the report that of `report`.
 //! - `decide_import` over any view answers the changes that, made, are the step of the definitions, or its refusal, and
 //!   changes nothing itself. An accepted import leaves a sound archive sound, uses no number again, and is answered

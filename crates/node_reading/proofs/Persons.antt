@@ -82,7 +82,7 @@ or_left : (a b c d e : Bool) → (a || (b || (c || (d || e)))) ≡ true → b �
 or_left true b c d e h n m k l = refl
 or_left false b c d e h n m k l = absurd (let wrong : true ≡ false = sym h ∙ (λ i. n i || (m i || (k i || l i))) in cc)
 
--- a sex is told by its word
+-- a sex is known by its word
 test_row : (P : Field → Bool) (b : Bool) (x y : Field) → (b ≡ true → P x ≡ true) → P y ≡ true → P (row b x y) ≡ true
 test_row P true x y h k = h refl
 test_row P false x y h k = k

@@ -86,7 +86,7 @@ missing_more y x None xs e h = both (is_same y x) (list_any (is_same y) xs) e h
 missing_more y x (Some a) xs e h = h
 
 module _ (field : Tree Line → Field) where
-  -- ---- what is told
+  -- ---- what is known
   pub told_same : {A : Type 0} (g : Option (List ℕ) → Option A) (x : Field) (o : Option A) (t : Tree Line) (ts : Lines)
       → is_first (field t) x o ≡ false
       → or_told o (g (text_at field x ts)) ≡ or_told o (g (text_at field x (t ∷ ts)))

@@ -66,7 +66,7 @@ abbrev pub unless_placed : Option model.EventPlace → Option (List ℕ) → Opt
 unless_placed None path = path
 unless_placed (Some p) path = None
 
--- what is told with the lines that are left
+-- what is known with the lines that are left
 abbrev pub event_with : Known → EventTold → Lines → EventTold
 event_with known e ts = record {
   date = text_or (event_field known) a_date e.date ts;

@@ -1,4 +1,4 @@
--- What is told by the lines below that of a place, and below one that names who took part; and with the lines left.
+-- What is known by the lines below that of a place, and below one that names who took part; and with the lines left.
 use Rattle.std.specs.Prelude.{ℕ, Bool, List, [], ◌∷◌, Option, Some, None, option_map}
 use Rattle.std.specs.List.{filter}
 use Rattle.stored_lines.specs.Tree.{Tree}

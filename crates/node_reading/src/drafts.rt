@@ -30,7 +30,7 @@ pub enum Draft {
     Other(Other),
 }
 
-/// The draft of a line of level 0 with all below it. Known are the places before it alone, and all records.
+/// The draft of a line of level 0 with all below it. Known are only the places before it, and all records.
 ///
 /// The value of a record of one of five kinds is not kept, nor are a person's lines that name its families.
 pub fn draft_of<E: Known, K: Known>(

@@ -35,7 +35,7 @@ pub struct PersonDraft {
     pub owned: Vec<Owned>,
 }
 
-/// A family with what it owns, in the order of its lines. It has its own side of the memberships alone.
+/// A family with what it owns, in the order of its lines. It has only its own side of the memberships.
 #[derive(Drop)]
 pub struct FamilyDraft {
     pub family: Family,

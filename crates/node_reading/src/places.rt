@@ -19,7 +19,7 @@ use record_text::Text;
 use std::alloc::{AllocError, Global};
 use stored_lines::Carried;
 
-/// The place of its lines, and its path. Known are the paths of the places before it alone.
+/// The place of its lines, and its path. Known are only the paths of the places before it.
 pub fn place_of<K: Known>(
     alloc: Global,
     earlier: &K,

@@ -8,7 +8,7 @@ use Rattle.stored_lines.specs.declared.carried.Value.TheVariants as value
 use Rattle.gedcom_line.specs.Value.{Meaning, Text, Pointer}
 use Rattle.gedcom_tree.specs.Forest.{Item}
 
--- a node of a file by itself: what is below it, and so its level, is told apart
+-- a node of a file by itself: what is below it, and so its level, is said separately
 pub record Mark : Type 0 where
   pub xref : Option (List ℕ)
   pub tag : List ℕ

@@ -1,4 +1,4 @@
--- Links are told by their keys.
+-- Links are distinguished by their keys.
 use Rattle.std.proofs.Common.{◌≡◌, ◌<◌, ◌+◌, ◌*◌, ◌^◌, ◌↔◌, ◌≤ℤ◌, ℕ, arith}
 use Rattle.std.proofs.lemmas.Int.{ints}
 use Rattle.packed_rows.specs.Keys.{link_key}

@@ -1,4 +1,4 @@
--- Numbers in decimal: digits alone, without a leading zero, and one number each.
+-- Numbers in decimal: only digits, without a leading zero, and one number each.
 use Rattle.std.proofs.Common.{
   ◌≡◌,
   ◌==◌,

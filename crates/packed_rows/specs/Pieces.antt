@@ -24,7 +24,7 @@ use Rattle.packed_rows.specs.Packed.{IsTypedLine, on_one_line, text_part, line_t
 abbrev pub Lacks : ℕ → List ℕ → Type 0
 Lacks mark bytes = list_any (λ b. b == mark) bytes ≡ false
 
--- digits alone, and no zero before others
+-- only digits, and no zero before others
 abbrev pub is_plain : List ℕ → Bool
 is_plain bytes = list_all is_ascii_digit bytes && not (nat_lt 1 (length bytes) && (get_or bytes 0 0 == 48))
 

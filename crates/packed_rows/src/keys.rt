@@ -1,6 +1,6 @@
 //! The key of a link in a table: which number is named, and which record names it, in one number of 64 bits.
 //!
-//! It uses the standard library alone. It knows no record and no table.
+//! It uses only the standard library. It knows no record and no table.
 //!
 //! ```text
 //! let key = link_key(named, number); // the record `number` names the number `named`

@@ -79,7 +79,7 @@ pub(crate) fn number_of(digits: &str) -> Result<u32, RefusalKind>
     }
 }
 
-/// Whether there are digits alone, and no zero stands before others.
+/// Whether there are only digits, and no zero stands before others.
 fn is_plain(bytes: &[u8]) -> bool
     ensures { result ≡ plain_test bytes.now }
 {

@@ -1,4 +1,4 @@
--- The codes by which the values of fields are told apart.
+-- The codes by which the values of fields are distinguished.
 use Rattle.std.specs.Prelude.{◌≡◌, ℕ, List}
 use Rattle.std.proofs.Common.{ap, subst}
 use Rattle.std.specs.Coded.{Coded, coded_list, coded_ℕ}

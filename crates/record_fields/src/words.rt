@@ -65,7 +65,7 @@ impl Quality {
 pub enum Sex {
     Male,
     Female,
-    /// It was asked for and could not be told.
+    /// It was asked for and could not be found out.
     Unknown,
 }
 

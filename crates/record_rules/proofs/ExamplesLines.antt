@@ -12,7 +12,7 @@ use Rattle.record_rules.specs.Archives.{Archive}
 use Rattle.record_rules.specs.Rules.{OneBreaks, of_records, untaken}
 use Rattle.record_rules.proofs.Hands.{citation, event, family, holding, person, place, repo, source}
 
--- one is broken by such a line alone, the other is sound
+-- one is broken only by such a line, the other is sound
 abbrev pub OneIsTaken : Archive → Archive → Type 0
 OneIsTaken a b = OneBreaks (of_records untaken) a b
 

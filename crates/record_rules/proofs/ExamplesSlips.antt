@@ -42,7 +42,7 @@ merge keep gone changes = record { keep = keep; gone = gone; changes = changes; 
 abbrev with_slip : Slip → Archive
 with_slip s = record { records = (1, person []) ∷ []; next = 10; slips = (9, s) ∷ [] }
 
--- the one breaks a rule alone, the other is sound
+-- only the one breaks a rule, the other is sound
 abbrev OneIsBroken : SlipRule → Slip → Slip → Type 0
 OneIsBroken r s t = OneBreaks (of_slips r) (with_slip s) (with_slip t) × IsMerge s × IsMerge t
 

@@ -60,7 +60,7 @@ pub a_record_of_no_other_kind_that_is_a_continuation : OneBreaks (of_records tag
     (holding ((1, other (codes "CONT") []) ∷ []) 2) (holding ((1, other (codes "NOTE") []) ∷ []) 2)
 a_record_of_no_other_kind_that_is_a_continuation = (refl, refl)
 
--- the trailer is a tag of level 0 alone
+-- the trailer is only a tag of level 0
 pub a_trailer_among_records : OneBreaks (of_records trailers) (holding ((1, other (codes "TRLR") []) ∷ []) 2)
     (holding ((1, other (codes "HEAD") (text_line (codes "TRLR") [] ∷ [])) ∷ []) 2)
 a_trailer_among_records = (refl, refl)

@@ -206,7 +206,7 @@ archive_rules = begun ∷ bounded ∷ distinct ∷ linked ∷ stayed ∷ free
 abbrev pub broken : Archive → List ArchiveRule
 broken a = filter (λ r. not (archive_keeps a r)) archive_rules
 
--- the first breaks that rule alone, and its neighbour none
+-- the first breaks only that rule, and its neighbour none
 abbrev pub OneBreaks : ArchiveRule → Archive → Archive → Type 0
 OneBreaks r a b = (broken a ≡ r ∷ []) × (broken b ≡ [])
 

@@ -20,7 +20,7 @@ use std::alloc::{AllocError, Global};
 use stored_lines::Carried;
 
 /// Whether no field of its part, read before it, would take a carried line of the record. `earlier` knows the paths of
-/// the places before it alone.
+/// the places before it.
 pub fn has_untaken<E: Known, K: Known>(
     alloc: Global,
     earlier: &E,

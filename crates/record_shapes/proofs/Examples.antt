@@ -93,7 +93,7 @@ a_partner_is_a_member = refl
 pub a_partner_below_a_person_is_carried : person_field known (pointer_line (codes "HUSB") 5 []) ≡ carried
 a_partner_below_a_person_is_carried = refl
 
--- a marriage is an event of families alone, a census one of both
+-- a marriage is an event only of families, a census one of both
 pub a_marriage_is_of_families : (family_field known (text_line (codes "MARR") []) ≡ an_event)
     × (person_field known (text_line (codes "MARR") []) ≡ carried)
 a_marriage_is_of_families = (refl, refl)

@@ -96,7 +96,7 @@ a_role = part.Role
 pattern abbrev pub carried : Field
 carried = part.Carried
 
--- fields are told apart by numbers
+-- fields are distinguished by numbers
 abbrev pub field_number : Field → ℕ
 field_number a_name = 1
 field_number a_parent = 2
@@ -193,7 +193,7 @@ abbrev pub is_above : List ℕ → Option (List ℕ) → Bool
 is_above called None = false
 is_above called (Some path) = is_within_limits (path_below called path)
 
--- below a place, the line that names the place above it: ours. Known are the paths of the places before it alone, so
+-- below a place, the line that names the place above it: ours. Known are only the paths of the places before it, so
 -- that it is not above itself
 abbrev pub parent_field : Known → List ℕ → Tree Line → Field
 parent_field known name t =

@@ -7,7 +7,7 @@ use Rattle.stored_lines.specs.Line.{Line, Lines}
 use Rattle.record_shapes.specs.Forms.{text_of}
 use Rattle.record_shapes.specs.Fields.{Field, carried, is_same}
 
--- what is carried once the fields are taken out: a line of no field, and a further one of a field that a record has
+-- what is carried once the fields are removed: a line of no field, and a further one of a field that a record has
 -- once
 abbrev pub is_left : List Field → Field → Bool
 is_left once x = list_any (is_same x) (carried ∷ once)

@@ -1,5 +1,5 @@
 -- The record that lines are read as (The GEDCOM Standard Release 5.5.1, chapter 2, record structures), with the events
--- and citations below it. A family has its own side of the memberships alone. An event or a citation has no owner yet:
+-- and citations below it. A family has only its own side of the memberships. An event or a citation has no owner yet:
 -- it is what it is below.
 use Rattle.std.specs.Prelude.{
   ℕ,

@@ -35,7 +35,7 @@ pub(crate) fn replaced(
     Ok(out)
 }
 
-/// The next word and what follows it; nothing where spaces alone are left.
+/// The next word and what follows it; nothing where only spaces are left.
 pub(crate) fn next_word(text: &str) -> Option<(&str, &str)>
     ensures { MatchOption result (words text.now ≡ [])
         (λ x. words text.now ≡ x.0.now ∷ words x.1.now) }

@@ -5,7 +5,7 @@
 //! `records` to say, which hands all of this on.
 //!
 //! Callers may rely on: a `Text` and a `Tag` are made only where the string is one, so what holds one need
-//! not look again; the number and the name of each refusal stand in `RefusalKind` alone; `display`,
+//! not look again; the number and the name of each refusal stand only in `RefusalKind`; `display`,
 //! `surname` and `surname_key` are functions of the bytes of a name.
 #![tactic(auto)]
 

@@ -53,7 +53,7 @@ pub fn surname(name: &str) -> &str
 }
 
 /// The key under which a surname is looked up: its default case folding (The Unicode Standard, section
-/// 3.13), so that surnames that differ in case alone have one key.
+/// 3.13), so that surnames that differ only in case have one key.
 pub fn surname_key(alloc: Global, surname: &str) -> Result<String, AllocError>
     ensures { IfOk result (λ k. string_bytes k ≡ key_of surname.now) }
 {

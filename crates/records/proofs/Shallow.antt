@@ -284,7 +284,7 @@ no_record ls (Some u) t o e is h n = λ r k f.
     absurd cc
 
 not_same : (ls : List (ℕ × Label)) (found : Option (Tree Label)) (t : Tree Label) (kept : Option Record) (x : Record)
-    → IsTree ls found → found ≡ Some t → kept ≡ record_from shallow_lines t → kept ≡ Some x → ls ≢ stored x
+    → IsTree ls found → found ≡ Some t → kept ≡ record_from shallow_lines t → kept ≡ Some x → t ≢ record_tree x
     → (r : Record) → IsShallow r → ls ≢ stored r
 not_same ls None t kept x e is h k differs = absurd cc
 not_same ls (Some u) t kept x e is h k differs = λ r shallow f.
@@ -292,12 +292,20 @@ not_same ls (Some u) t kept x e is h k differs = λ r shallow f.
     let lines_of_t : ls ≡ flat 0 t = e.1 ∙ ap (flat 0) same_tree in
     let same : Some x ≡ Some r = sym k ∙ h ∙ found-one ls t r lines_of_t f shallow in
     let one : r ≡ x = cc in
-    differs (f ∙ ap stored one)
+    differs (flat_one t (record_tree r) (sym lines_of_t ∙ f) ∙ ap record_tree one)
+
+same_lines : (ls : List (ℕ × Label)) (found : Option (Tree Label)) (t : Tree Label) (s : Record) → IsTree ls found
+    → found ≡ Some t → t ≡ record_tree s → ls ≡ stored s
+same_lines ls None t s e is h = absurd cc
+same_lines ls (Some u) t s e is h =
+    let same_tree : u ≡ t = cc in
+    e.1 ∙ ap (flat 0) (same_tree ∙ h)
 
 pub one_kept : {E : Type 0} (ls : List (ℕ × Label)) (found : Option (Tree Label)) (t : Tree Label)
     (kept : Option Record) (x : Record) → IsTree ls found → found ≡ Some t → kept ≡ record_from shallow_lines t
-    → kept ≡ Some x → (r : Result (Option Record) E) → IfOk r (λ o. MatchOption o (ls ≢ stored x) (λ s. ls ≡ stored s))
+    → kept ≡ Some x → (r : Result (Option Record) E)
+    → IfOk r (λ o. MatchOption o (t ≢ record_tree x) (λ s. t ≡ record_tree s))
     → IfOk r (λ o. MatchOption o ((s : Record) → IsShallow s → ls ≢ stored s) (λ s. ls ≡ stored s))
 one_kept ls found t kept x e is h k (Ok None) differs = not_same ls found t kept x e is h k differs
-one_kept ls found t kept x e is h k (Ok (Some s)) same = same
+one_kept ls found t kept x e is h k (Ok (Some s)) same = same_lines ls found t s e is same
 one_kept ls found t kept x e is h k (Err _) _ = tt

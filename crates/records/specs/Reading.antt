@@ -98,7 +98,7 @@ mention_from t = record {
 abbrev pub place_number : model.EventPlace → ℕ
 place_number p = p.place
 
--- stored lines as carried ones: all of them, and those alone that can be carried
+-- stored lines as carried ones: all of them, and only those that can be carried
 abbrev pub all_lines : Branches → Lines
 all_lines ts = map (relabel line_of) ts
 

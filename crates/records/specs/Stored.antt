@@ -147,7 +147,7 @@ mention_tree m = branch field.Mention (Some m.name) (option_map link_person m.li
 abbrev pub bare_place : ℕ → model.EventPlace
 bare_place n = record { place = n; carried = [] }
 
--- by what an entry is found among those of its source: its item and its page, or the item alone where the page is long
+-- by what an entry is found among those of its source: its item and its page, or only the item where the page is long
 abbrev pub key_words : Item → List ℕ → List ℕ
 key_words item page = cond (nat_le (length page) 1000) (decimal item.number ++ (codes " " ++ page))
     (decimal item.number)

@@ -10,7 +10,7 @@ use std::alloc::{AllocError, Global};
 /// The most bytes of a page that the words of an entry's key have, so that an index stays small.
 const MAX_PAGE: usize = 1_000;
 
-/// By what an entry is found: its item and its page, or the item alone where the page has more than 1,000 bytes. These
+/// By what an entry is found: its item and its page, or only the item where the page has more than 1,000 bytes. These
 /// words and the number of the source are on a line of the entry, so that an index finds the few entries that have
 /// both.
 pub fn entry_key(alloc: Global, item: Item, page: &Text) -> Result<Text, AllocError>

@@ -2,7 +2,7 @@
 
 ghost use Rattle.std.specs.Prelude.{◌≡◌, ◌≢◌, ◌⊎◌, ◌↔◌, IfOk, IfErr, IsTrue, MatchOption};
 ghost use Rattle.records.specs.Shallow.{IsShallow};
-ghost use Rattle.records.specs.Stored.{stored};
+ghost use Rattle.records.specs.Stored.{record_tree, stored};
 ghost use Rattle.record_kinds.specs.declared.record.Record.{Record};
 ghost use Rattle.record_text.specs.declared.refusal.RefusalKind.TheVariants as kinds;
 
@@ -10,7 +10,7 @@ use crate::kinds::{branch_of_record, record_in};
 use record_kinds::Record;
 use record_text::RefusalKind;
 use std::alloc::{AllocError, Global};
-use stored_lines::{StoredLine, are_same, branch_of_lines, lines_of_branch};
+use stored_lines::{Branch, StoredLine, are_same_branches, branch_of_lines, lines_of_branch};
 
 /// The lines that a record is kept as.
 pub fn lines_of(alloc: Global, record: &Record) -> Result<Vec<StoredLine>, AllocError>
@@ -18,7 +18,7 @@ pub fn lines_of(alloc: Global, record: &Record) -> Result<Vec<StoredLine>, Alloc
     ensures shallow { IfOk result (λ _. IsShallow «record».now) }
 {
     let branch = branch_of_record(alloc, record)?;
-    lines_of_branch(alloc, &branch)
+    lines_of_branch(alloc, branch)
 }
 
 /// The record that is kept as these lines. 40: no record is, as where lines are nested too deep.
@@ -55,21 +55,17 @@ fn found_in(alloc: Global, lines: &[StoredLine]) -> Result<Option<Record>, Alloc
         return Ok(None);
     };
     match record_in(alloc, &tree)? {
-        Some(found) => kept_alone(alloc, found, lines),
+        Some(found) => kept_alone(alloc, found, &tree),
         None => Ok(None),
     }
 }
 
-/// The record, where these lines are those that it is kept as.
-fn kept_alone(
-    alloc: Global,
-    found: Record,
-    lines: &[StoredLine],
-) -> Result<Option<Record>, AllocError>
+/// The record, where this branch is the one that it is kept as.
+fn kept_alone(alloc: Global, found: Record, tree: &Branch) -> Result<Option<Record>, AllocError>
     ensures { IfOk result (λ kept. MatchOption kept
-        (lines.now ≢ stored found) (λ r. lines.now ≡ stored r)) }
+        (tree.now ≢ record_tree found) (λ r. tree.now ≡ record_tree r)) }
 {
-    match is_kept_as(alloc, &found, lines) {
+    match is_kept_as(alloc, &found, tree) {
         Ok(true) => Ok(Some(found)),
         Ok(false) => {
             drop(found);
@@ -82,10 +78,10 @@ fn kept_alone(
     }
 }
 
-/// Whether these lines are those that the record is kept as.
-fn is_kept_as(alloc: Global, record: &Record, lines: &[StoredLine]) -> Result<bool, AllocError>
-    ensures { IfOk result (λ same. IsTrue same ↔ (lines.now ≡ stored «record».now)) }
+/// Whether this branch is the one that the record is kept as.
+fn is_kept_as(alloc: Global, record: &Record, tree: &Branch) -> Result<bool, AllocError>
+    ensures { IfOk result (λ same. IsTrue same ↔ (tree.now ≡ record_tree «record».now)) }
 {
-    let kept = lines_of(alloc, record)?;
-    Ok(are_same(lines, &kept))
+    let kept = branch_of_record(alloc, record)?;
+    Ok(are_same_branches(tree, &kept))
 }

@@ -2,7 +2,7 @@
 //! and names are those of `record_text`, dates and words those of `record_fields`, carried and stored lines those
 //! of `stored_lines`; all are handed on from here.
 //!
-//! It uses these four alone.
+//! It uses only these four.
 //!
 //! Callers may rely on: `record_of` gives back the record whose lines `lines_of` gave, and refuses the lines of no
 //! record; `copy_record` gives the same record in memory of its own.

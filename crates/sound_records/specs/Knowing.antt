@@ -34,7 +34,7 @@ IsTooLong m n = (path : List ℕ) × HasPath m n path × ¬ (IsWithinLimits path
 abbrev pub known_by : Records → PathMap → Known
 known_by m paths = record { tag = λ n. tag_at (get m n); path = λ n. get paths n }
 
--- the same, with the paths of the places before a number alone
+-- the same, only with the paths of the places before a number
 abbrev pub known_by_before : Records → PathMap → ℕ → Known
 known_by_before m paths k = record {
   tag = λ n. tag_at (get m n);

@@ -32,7 +32,7 @@ impl<'a> Known for Seen<'a> {
     }
 }
 
-/// The same, with the paths of the places before a number alone.
+/// The same, only with the paths of the places before a number.
 #[derive(Clone, Copy)]
 pub struct Before<'a> {
     pub state: &'a State,

@@ -1,4 +1,4 @@
--- Links among others: one that is put, and one that is taken out.
+-- Links among others: one that is put, and one that is removed.
 use Rattle.std.proofs.Common.{◌≡◌, ◌≢◌, ℕ, Bool, true, false, not, List, [], ◌∷◌, filter, refl, sym, ap, ◌∙◌}
 use Rattle.std.specs.Prelude.{◌==◌, ◌||◌, Option, Some, None}
 use Rattle.std.specs.List.{list_any}

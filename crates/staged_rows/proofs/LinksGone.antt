@@ -1,4 +1,4 @@
--- Links that are put, where none of them was there, and are taken out again: the others are left.
+-- Links that are put, where none of them was there, and are removed again: the others are left.
 use Rattle.std.proofs.Common.{
   ◌≡◌,
   ℕ,
@@ -67,7 +67,7 @@ use Rattle.list_laws.proofs.Booleans.{or_first, or_second}
 use Rattle.list_laws.proofs.Lists.{filter_all}
 use Rattle.record_shapes.proofs.Each.{each_more}
 
--- ---- what is left of links where some are taken out
+-- ---- what is left of links where some are removed
 abbrev pub left_of : List LinkRow → List LinkRow → List LinkRow
 left_of [] ks = ks
 left_of (l ∷ ls) ks = left_of ls (filter (λ x. not (is_pair l.target l.no x)) ks)

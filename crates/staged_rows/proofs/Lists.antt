@@ -1,4 +1,4 @@
--- Tests of lists into which an item is put, or of which some are taken out.
+-- Tests of lists into which an item is put, or of which some are removed.
 use Rattle.std.proofs.Common.{
   ◌≡◌,
   ◌≢◌,
@@ -108,7 +108,7 @@ filter_put key q x off (y ∷ ys) =
       | Greater ↦ λ p. ap (λ b. cond b (x ∷ filter q (y ∷ ys)) (filter q (y ∷ ys))) (off x refl)
     ] refl
 
--- ---- what several numbers have, taken out
+-- ---- what several numbers have, removed
 
 -- a number is not among these
 abbrev pub is_outside : List ℕ → ℕ → Bool

@@ -128,7 +128,7 @@ others_closed b m bs off =
     closed_elsewhere b m (put_by (λ (x : BatchRow). x.no) row bs) off
     ∙ any_put (λ (x : BatchRow). x.no) m (λ (x : BatchRow). not x.is_open) row bs off
 
--- ---- rows of `record` that differ in their batch alone
+-- ---- rows of `record` that differ only in their batch
 abbrev AreAlike : (ℕ → Bool) → (ℕ → Bool) → RecordRow → RecordRow → Type 0
 AreAlike f g r s = (r.no ≡ s.no) × (f r.batch ≡ g s.batch)
 

@@ -1,4 +1,4 @@
--- Rows that no record has, taken out: it is not seen.
+-- Rows that no record has, removed: it is not seen.
 use Rattle.std.proofs.Common.{◌≡◌, ℕ, Bool, true, false, not, List, ◌++◌, cond, filter, map, refl, sym, ap, ◌∙◌}
 use Rattle.std.specs.Prelude.{◌==◌, ◌&&◌, None}
 use Rattle.std.specs.List.{flat_map}

@@ -1,4 +1,4 @@
--- The span of a number in lists of spans, where one is put or taken out.
+-- The span of a number in lists of spans, where one is put or removed.
 use Rattle.std.proofs.Common.{◌≡◌, ◌≢◌, ℕ, true, false, not, List, [], ◌∷◌, cond, filter, refl, sym, ap, ◌∙◌, arith}
 use Rattle.std.specs.Prelude.{◌==◌, Option, Some, None}
 use Rattle.std.specs.List.{list_any}
@@ -25,7 +25,7 @@ none_at n (s ∷ ss) none =
     ap (λ b. cond b (span_in s) (span_at n ss)) (or_first (s.no == n) (list_any (λ (s : SpanRow). s.no == n) ss) none)
     ∙ none_at n ss (or_second (s.no == n) (list_any (λ (s : SpanRow). s.no == n) ss) none)
 
--- the spans of another number are taken out
+-- the spans of another number are removed
 pub span_kept : (m n : ℕ) → n ≢ m → (ss : List SpanRow)
     → span_at m (filter (λ (s : SpanRow). not (s.no == n)) ss) ≡ span_at m ss
 span_kept m n off [] = refl

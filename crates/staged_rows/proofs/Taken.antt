@@ -1,4 +1,4 @@
--- Spans, what is looked for, links, lines and rows of several numbers that are taken out, where none of them has a
+-- Spans, what is looked for, links, lines and rows of several numbers that are removed, where none of them has a
 -- record.
 use Rattle.std.proofs.Common.{
   ◌≡◌,

@@ -1,4 +1,4 @@
--- An import that is staged to any row and taken out again leaves the rows as they were.
+-- An import that is staged to any row and removed again leaves the rows as they were.
 use Rattle.std.proofs.Common.{
   ◌≡◌,
   ℕ,

@@ -1,4 +1,4 @@
--- The rows of an import that is taken out again. Rules of our own.
+-- The rows of an import that is removed again. Rules of our own.
 use Rattle.std.specs.Prelude.{ℕ, ◌≡◌, ◌==◌, Bool, true, false, List, [], ◌∷◌, filter}
 use Rattle.std.specs.List.{list_any}
 use Rattle.record_shapes.specs.Lists.{EachOf}
@@ -34,7 +34,7 @@ AreOf ns = EachOf (λ (l : LinkRow). is_from ns l ≡ true)
 abbrev pub without_later : List ℕ → List LinkRow → Rows → Rows
 without_later ns ls rows = without_all_links ls (without_all_of ns rows)
 
--- a batch is taken out: then the lines of its numbers go, then their rows in `record`, then its own row
+-- a batch is removed: then the lines of its numbers go, then their rows in `record`, then its own row
 abbrev pub without_batch : ℕ → List ℕ → List LinkRow → Rows → Rows
 without_batch batch ns ls rows = without_batch_row batch (without_records ns (without_later ns ls rows))
 

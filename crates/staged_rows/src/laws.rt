@@ -1,4 +1,4 @@
-//! What holds of rows that are staged, and of rows that are taken out again.
+//! What holds of rows that are staged, and of rows that are removed again.
 
 ghost use Rattle.std.specs.Prelude.{◌≡◌, ◌≢◌, ◌==◌, ◌++◌, ℕ, Bool, true, false, List, Option, None, filter, map, not};
 ghost use Rattle.std.specs.FinMap.{get};
@@ -130,7 +130,7 @@ pub fn an_import_leaves_the_rows_of_other_numbers()
         (λ (r : RecordRow). r.no == m) rows.records) }
 {}
 
-/// An import of which nothing was there, staged to any row and taken out, leaves the rows as they were, where no link
+/// An import of which nothing was there, staged to any row and removed, leaves the rows as they were, where no link
 /// was there that was written.
 pub fn an_import_that_is_taken_out_leaves_nothing()
     ensures { (batch : ℕ) (puts : List Numbered) (drawn : Drawn) (done left : List StagedRow) (rows : Rows)
@@ -140,7 +140,7 @@ pub fn an_import_that_is_taken_out_leaves_nothing()
         ≡ rows }
 {}
 
-/// A batch that is not closed can be taken out with all of its numbers, and with links from these: it is not seen.
+/// A batch that is not closed can be removed with all of its numbers, and with links from these: it is not seen.
 pub fn a_batch_that_is_taken_out_is_not_seen()
     ensures { (batch : ℕ) (ns : List ℕ) (ls : List LinkRow) (rows : Rows) → AreAside ns rows → AreOf ns ls
         → is_closed batch rows.batches ≡ false → IsSeenAs rows (without_batch batch ns ls rows) }

@@ -139,7 +139,7 @@ nothing_done P (Err e) is = tt
 module _ {A E : Type 0} (has_spans : Bool) (ns : List ℕ) (ls : List LinkRow) (old mid new : State) (result : Result A E)
     (undated : HasCleanDisk mid → (rows : Rows) → Settled old rows → rows.has_spans ≡ has_spans
     → Settled mid (without_later ns ls rows)) where
-  -- the spans and the links are gone, and the lines and the rows are being taken out
+  -- the spans and the links are gone, and the lines and the rows are being removed
   pub rows_leave : {Is : Rows → Rows → Type 0} → Clears ns Is mid new result → HasCleanDisk new → (rows : Rows)
       → Settled old rows → rows.has_spans ≡ has_spans → AreAside ns rows → AreOf ns ls → LeavesSeen new rows
   rows_leave takes ok rows was has aside are =

@@ -263,7 +263,7 @@ module _ (later : Later) (c : Cursor) where
       → length later.spans.items ≤ c.spans → later_left later c ≡ []
   later_past past more last = soughts_past past more ∙ ap (map row_of_span) (drop_all c.spans later.spans.items last)
 
--- where all rows of `record` and all lines are written, those after them are left alone
+-- where all rows of `record` and all lines are written, those after them are left as they are
 pub later_alone : (batch : ℕ) (ps : List Numbered) (later : Later) (c : Cursor) → length ps ≤ c.rows
     → length ps ≤ c.done → left_of batch ps later c ≡ later_left later c
 later_alone batch ps later c rows done =

@@ -1,4 +1,4 @@
--- Open batches that are taken out, one after the other.
+-- Open batches that are removed, one after the other.
 use Rattle.std.proofs.Common.{
   ◌≡◌,
   ◌⊎◌,
@@ -74,7 +74,7 @@ module _ (b : BatchRow) where
   none_is_it (x ∷ bs) above =
       ap₂ (λ s t. (s && not x.is_open) || t) (later_no b.no x.no above.0) (none_is_it bs above.1)
 
-  -- it alone is taken out
+  -- only it is removed
   pub it_goes : (before left : List BatchRow) → Rises (before ++ b ∷ left)
       → filter stays (before ++ b ∷ left) ≡ before ++ left
   it_goes [] left rise =
@@ -138,7 +138,7 @@ next_is_open s b left rows here is settled was =
     ap (is_closed b.no) was.batches
     ∙ it_is_open b is was.before left (subst Rises was.batches settled.good.holds.batches.rise)
 
--- a batch is taken out with all that it has
+-- a batch is removed with all that it has
 abbrev pub without_open : ℕ → Rows → Rows
 without_open batch rows =
     without_batch batch (numbers_in batch rows) (links_from (numbers_in batch rows) rows) rows
@@ -191,7 +191,7 @@ goes_past has_spans old now b left is way = record {
   clean = way.clean;
 }
 
--- a batch is to be taken out: the tables have spans or none, as they are said to
+-- a batch is to be removed: the tables have spans or none, as they are said to
 pub has_as_said : (has_spans : Bool) (b : BatchRow) (left : List BatchRow) (rows here : Rows) → b.is_open ≡ true
     → HasCleared (b ∷ left) rows here → AreFit has_spans rows → here.has_spans ≡ has_spans
 has_as_said has_spans b left rows here is was (inl has) = was.seen.has_spans ∙ has

@@ -1,4 +1,4 @@
--- What goes first of a batch, taken out part by part, of tables that have spans: the spans of its numbers and what they
+-- What goes first of a batch, removed part by part, of tables that have spans: the spans of its numbers and what they
 -- are looked for by, and its links.
 use Rattle.std.proofs.Common.{
   ◌≡◌,
@@ -124,7 +124,7 @@ first_version ns ls s rows was is =
     ∙ ap (without_all_links ls) (no_soughts ns rows own.4) ∙ no_links ls rows own.3)
 
 -- ---- commits one after the other
--- what is taken out of rows part by part: of each item a number, so that it is not seen where this has no record
+-- what is removed of rows part by part: of each item a number, so that it is not seen where this has no record
 pub record IsOut {X : Type 0} (no : X → ℕ) (out : List X → Rows → Rows) : Type 0 where
   pub none : (rows : Rows) → out [] rows ≡ rows
   pub two : (xs ys : List X) (rows : Rows) → out ys (out xs rows) ≡ out (xs ++ ys) rows
@@ -144,7 +144,7 @@ pub links_go : IsOut (λ (l : LinkRow). l.no) without_all_links
 links_go = record { none = λ rows. refl; two = links_of_two; has = links_has; seen = links_out }
 
 module _ {X : Type 0} (no : X → ℕ) (out : List X → Rows → Rows) (law : IsOut no out) where
-  -- these are taken out
+  -- these are removed
   pub record AreGone (front : List X) (old now : State) : Type 0 where
     pub done : HasCleanDisk now → (rows : Rows) → Settled old rows → rows.has_spans ≡ true
         → Settled now (out front rows)
@@ -167,7 +167,7 @@ module _ {X : Type 0} (no : X → ℕ) (out : List X → Rows → Rows) (law : I
       clean = λ ok. way.clean (clean ok);
     }
 
-    -- what is taken out is some of what no record has
+    -- what is removed is some of what no record has
     pub part_leaves : (xs behind : List X) → xs ≡ front ++ (ks ++ behind)
         → (HasCleanDisk new → (rows : Rows) → Settled mid rows → rows.has_spans ≡ true
         → LeavesEither new rows (out ks rows))

@@ -1,4 +1,4 @@
--- What is told of an import, a stage more.
+-- What is reported of an import, a stage more.
 use Rattle.std.proofs.Common.{◌≡◌, ◌∙◌, ◌+◌, ◌-◌, ◌*◌, ◌^◌, ℕ, ap, arith, min, zero, suc}
 use Rattle.staging.specs.Counts.{RowCount, TellsStages, a_stage_more, after_stages}
 
@@ -9,7 +9,7 @@ one_stage_more all n =
     let written : min (min (256 * n) most + 256) most ≡ min (256 * suc n) most = omega (arith) in
     ap (λ (k : ℕ). record { written = k; all = most }) written
 
--- what is told to one is told to another that sees it, where what holds at the end has held before
+-- what is reported to one is reported to another that sees it, where what holds at the end has held before
 module _ {P Q : Type 0} (Tells : P → RowCount → P → Type 0) (Says : Q → RowCount → Q → Type 0) (seen : P → Q)
     (Still : P → Type 0) (each : (a b : P) (rows : RowCount) → Tells a rows b → Still b
     → Still a × Says (seen a) rows (seen b)) (all : ℕ) where

@@ -49,7 +49,7 @@ module _ {A E : Type 0} (ns : List ℕ) (old new : State) (result : Result A E)
       (thinned_from n at)
       (λ rows aside. lines_from_out n at rows (has_none (λ m. has_record m rows ≡ false) n ns has aside))
 
-  -- the numbers of which lines or rows are taken out are some of them, in one piece
+  -- the numbers of which lines or rows are removed are some of them, in one piece
   module _ (front ks behind : List ℕ) (are : ns ≡ front ++ (ks ++ behind)) where
     are_aside : (rows : Rows) → AreAside ns rows → AreAside ks rows
     are_aside rows all =
@@ -71,7 +71,7 @@ module _ {A E : Type 0} (ns : List ℕ) (old new : State) (result : Result A E)
         (λ rows. sym (rows_of_two ks behind rows))
         (λ rows aside. rows_out rows ks rows (are_aside rows aside) (seen_same rows))
 
-  -- where `rest` is left so far, and its front is taken out
+  -- where `rest` is left so far, and its front is removed
   module _ (start : State) (front rest ks behind : List ℕ) (are : ns ≡ front ++ rest)
       (parted : rest ≡ ks ++ behind) where
     pub lines_go_on : IsOnTheWay ns (λ rows here. without_all_lines rest here ≡ without_all_lines ns rows) start old
@@ -90,7 +90,7 @@ module _ {A E : Type 0} (ns : List ℕ) (old new : State) (result : Result A E)
         (no_rows front ks behind (are ∙ ap (λ r. front ++ r) parted) done crash)
         (λ x y z p q. q ∙ ap (λ r. without_record_rows r y) (sym parted) ∙ p)
 
--- ---- a number of which lines are taken out before all lines of it are
+-- ---- a number of which lines are removed before all lines of it are
 module _ {A E : Type 0} (ns : List ℕ) (d first at : ℕ) (le : first ≤ at) (low : at < length ns) (start old new : State)
     (result : Result A E)
     (way : IsOnTheWay ns (λ rows here. without_all_lines (drop first ns) here ≡ without_all_lines ns rows) start old)

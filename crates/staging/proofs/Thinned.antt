@@ -1,4 +1,4 @@
--- Lines and rows that are taken out part by part.
+-- Lines and rows that are removed part by part.
 use Rattle.std.proofs.Common.{
   ◌≡◌,
   ℕ,
@@ -81,7 +81,7 @@ no_line : (a b : Bool) → not (a && b) ≡ false → not a ≡ false
 no_line true b h = refl
 no_line false b h = absurd cc
 
--- what is left of the lines of a number from a place on, where all lines of it are taken out
+-- what is left of the lines of a number from a place on, where all lines of it are removed
 same_lines : (n at k : ℕ) (rows : Rows) → (k == n) ≡ true
     → without_lines k (without_lines_from n at rows) ≡ without_lines k rows
 same_lines n at k rows e = ap₂ (λ ls ps. record rows { lines = ls; packs = ps })

@@ -1,4 +1,4 @@
--- A batch that is taken out, commit by commit.
+-- A batch that is removed, commit by commit.
 use Rattle.std.specs.Prelude.{ℕ, ◌≡◌, ◌⊎◌, ◌==◌, List, true, Result, OnOk}
 use Rattle.std.specs.List.{list_any}
 use Rattle.sqlite.specs.State.{State, HasCleanDisk}
@@ -26,11 +26,11 @@ pub record Clears {A E : Type 0} (ns : List ℕ) (Is : Rows → Rows → Type 0)
   pub crash : HasCleanDisk new → (rows : Rows) → Settled old rows → AreAside ns rows → LeavesSeen new rows
   pub clean : HasCleanDisk new → HasCleanDisk old
 
--- the lines of a number are fewer, and no line else is: so it is the same where all of them are taken out with others
+-- the lines of a number are fewer, and no line else is: so it is the same where all of them are removed with others
 abbrev pub IsThinned : ℕ → Rows → Rows → Type 0
 IsThinned n rows after = (ks : List ℕ) → list_any (λ k. k == n) ks ≡ true
     → without_all_lines ks after ≡ without_all_lines ks rows
 
--- settled tables of which the same is seen as of these rows, and which have closed batches alone
+-- settled tables of which the same is seen as of these rows, and which have only closed batches
 abbrev pub IsCleared : State → Rows → Type 0
 IsCleared s rows = (after : Rows) × Settled s after × IsSeenAs rows after × AreAllClosed after

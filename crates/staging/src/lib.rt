@@ -1,4 +1,4 @@
-//! An import that is staged: its rows are written in commits of 256, it is published, or taken out again.
+//! An import that is staged: its rows are written in commits of 256, it is published, or removed again.
 #![tactic(auto)]
 
 pub mod clearing;

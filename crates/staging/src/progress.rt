@@ -1,4 +1,4 @@
-//! How far an import is, for whoever wants to be told.
+//! How far an import is, for whoever wants to know.
 
 ghost use Rattle.std.specs.Prelude.{◌≡◌, ◌-◌, ◌^◌, ℕ, length, min};
 ghost use Rattle.store_rows.specs.Spans.{AreDrawn, Drawn};
@@ -11,9 +11,9 @@ use crate::opened::OpenImport;
 use crate::writing::STAGE;
 use archive_state::Numbered;
 
-/// Who is told how far an import is. What becomes of the import does not depend on it.
+/// Who gets to know how far an import is. What becomes of the import does not depend on it.
 pub trait Progress {
-    /// Between the two it was told this count.
+    /// Between the two it got this count.
     ghost Tells: { Self → RowCount → Self → Type 0 };
 
     /// An import is open, of which no row is written yet.
@@ -25,7 +25,7 @@ pub trait Progress {
         ensures { Tells self.old rows self.new };
 }
 
-/// Nobody is told.
+/// Nobody gets to know.
 #[derive(Drop)]
 pub struct Silent;
 

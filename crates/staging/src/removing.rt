@@ -1,4 +1,4 @@
-//! A batch that is taken out with its rows, in commits of at most 256 rows.
+//! A batch that is removed with its rows, in commits of at most 256 rows.
 
 ghost use Rattle.std.specs.Prelude.{◌≡◌, ◌⊎◌, ◌≤◌, ◌==◌, ℕ, List, false, true, OnOk, IfOk, IfErr};
 ghost use Rattle.std.specs.List.{list_any};
@@ -316,7 +316,7 @@ fn take_lines<S: Alter>(conn: &mut Connection<S>, numbers: &[u32]) -> Result<(),
     clear_lines(conn, &numbers[first..])
 }
 
-/// How many lines a number has, 256 at most: of one that has more the others are taken out, from the last ones on.
+/// How many lines a number has, 256 at most: of one that has more the others are removed, from the last ones on.
 fn thinned<S: Alter>(conn: &mut Connection<S>, number: u32) -> Result<usize, Failed>
     requires autocommit { conn.old.in_transaction ≡ false }
     ensures small { IfOk result (λ count. count ≤ 256) }

@@ -164,7 +164,7 @@ not_both : (a b : Bool) → true ≡ (a && b) → b ≡ false → true ≡ false
 not_both true b both none = both ∙ none
 not_both false b both none = both
 
--- ---- imports are taken out
+-- ---- imports are removed
 
 pub none_found : (has_spans : Bool) (old new : State) → HasCleanDisk new → Looks Finds old new (Ok false)
     → ClearsImports has_spans old (Ok tt) new
@@ -201,7 +201,7 @@ unknown has_spans old mid new kind result before looks settled left same = recor
   clean = looks.clean before;
 }
 
--- one was found, and what is open is taken out
+-- one was found, and what is open is removed
 pub some_found : (has_spans : Bool) (old mid new : State) (r : Result (Unit {0}) RefusalKind) → HasCleanDisk mid
     → Looks Finds old mid (Ok true)
     → OnOk r ((rows : Rows) → IsToClear has_spans mid rows → IsCleared new rows)
@@ -346,7 +346,7 @@ not_recognised old new kind still refused = record {
   };
 }
 
--- ---- it is made anew
+-- ---- it is converted
 seen_alike : (rows other : Rows) → IsSeenAs rows other → AreSeenAlike rows other
 seen_alike rows other seen = record {
   version = seen.version;
@@ -380,7 +380,7 @@ module _ (alike : (rows other : Rows) (before : OldContent) → AreSeenAlike row
     batch = had.2.2.means.batch;
   }
 
-  -- imports were not taken out
+  -- imports were not removed
   pub not_cleared : (old new : State) (kind : RefusalKind) → ClearsImports false old (Err kind) new
       → TakesUpAnew old (Err kind) new
   not_cleared old new kind clears = record {
@@ -538,7 +538,7 @@ settled_cleared old mid new r clears renews sure = on_err r (λ stays. record {
       ((out.0, now.0, out.2), (λ t l. (out.0, now.1 t l, out.2)));
 }) (renews.stays sure)
 
--- 40 is told of rows that mean no archive of the first version
+-- 40 is reported of rows that mean no archive of the first version
 pub unread_not_cleared : (old new : State) (kind : RefusalKind) → ClearsImports false old (Err kind) new
     → kind ≡ BadStored → IsUnreadable old
 unread_not_cleared old new kind clears e rows c was means = no_failure kind e (clears.refused rows was)

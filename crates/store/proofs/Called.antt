@@ -105,7 +105,7 @@ module _ {S : Type 0} (g : Ghosts S) (old new : Held S) (was is : Standing) wher
     clean = λ clean. (did clean).clean;
   })
 
-  -- rows of an import are written or taken out: what the archive holds stays
+  -- rows of an import are written or removed: what the archive holds stays
   pub staged_call : was.is_lost ≡ false
       → (HasCleanDisk (state g new) → is.is_lost ≡ false → (society : List ℕ) (c : Content)
       → Has society c was.import (state g old) → Has society c is.import (state g new))

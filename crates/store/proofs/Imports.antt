@@ -396,7 +396,7 @@ publish_leaves seen whole beside read society c r i rows s has none either t l =
   )
 ]
 
--- ---- it is taken out
+-- ---- it is removed
 pub aside_of : CanBeTakenOut → (society : List ℕ) (c : Content) (r : Request) (i : Import) (rows : Rows)
     → KeepsImport society c r i rows
     → AreAside (numbers_of i.changes.puts) rows × (is_closed i.batch rows.batches ≡ false)

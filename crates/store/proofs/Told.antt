@@ -1,4 +1,4 @@
--- What is told of an import while its rows are written.
+-- What is reported of an import while its rows are written.
 use Rattle.std.proofs.Common.{
   ◌≡◌,
   ◌≢◌,
@@ -51,7 +51,7 @@ whole_of changes (Some i) whole =
     subst (λ x. IsWhole i.batch x i) (sym (ap (λ (j : Import). j.changes) whole.1.2)) whole.1
 
 module _ {P : Type 0} (Tells : P → RowCount → P → Type 0) where
-  -- so many rows are there, of which these are left, and it was told so
+  -- so many rows are there, of which these are left, and it was reported so
   pub record IsTold (all : ℕ) (left : List StagedRow) (rows : RowCount) (old new : P) : Type 0 where
     pub stages : ℕ
     pub each : 256 * stages < all + 256
@@ -120,7 +120,7 @@ module _ {P : Type 0} (Tells : P → RowCount → P → Type 0) where
   told_done before mid r a (Some i) old new whole begun answered silent told society c rows was keeps =
       inr (i, (begun society c rows was keeps).0.2.accepted, whole, told whole)
 
--- what is told to one, as another sees it
+-- what is reported to one, as another sees it
 module _ {P F : Type 0} (b a : P) (Tells : P → RowCount → P → Type 0) (Says : F → RowCount → F → Type 0) (seen : P → F)
     (Still : P → Type 0) (each : (a b : P) (rows : RowCount) → Tells a rows b → Still b
     → Still a × Says (seen a) rows (seen b)) (still : Still b) where

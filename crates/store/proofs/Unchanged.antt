@@ -80,7 +80,7 @@ each_put (p ∷ ps) m ascends = (
   each_put ps (insert m p.number p.«record») ascends.1,
 )
 
--- ---- numbers that are put and numbers that are taken out
+-- ---- numbers that are put and numbers that are removed
 apart_one : (k : ℕ) (ps : List Numbered) → list_any (λ m. m == k) (map (λ (p : Numbered). p.number) ps) ≡ false
     → EachOf (λ (p : Numbered). k ≢ p.number) ps
 apart_one k [] e = tt

@@ -99,7 +99,7 @@ not_storage : (lost : Bool) (k : RefusalKind) → lost || is_storage k ≡ false
 not_storage false k e = e
 not_storage true k e = absurd (true≢false e)
 
--- what is refused with is want of memory, or 80
+-- what is refused with is out of memory, or 80
 fails : (rows : Rows) (kind : RefusalKind) → AreReadable rows → IsFailure kind
     ⊎ ((kind ≡ BadStored) × ¬ (AreReadable rows)) → IsFailure kind
 fails rows kind readable (inl failure) = failure

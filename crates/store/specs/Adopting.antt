@@ -68,7 +68,7 @@ pub record LeavesStore (old new : State) : Type 0 where
   pub crash : HasCleanDisk new → IsTrue old.is_open → (t : Trees) → new.may_leave t → t ≡ old.committed.trees
 
 -- what a store that is refused leaves: nothing is committed; or it was recognised, and it was refused by 1, 40 or 80
--- while imports were taken out of it, or while it was written anew
+-- while imports were removed of it, or while it was written anew
 abbrev pub LeavesRefused : {S : Type 0} → Ghosts S → State → RefusalKind → State → Type 0
 LeavesRefused g old kind new = LeavesStore old new ⊎ ((is_stop kind ≡ true) × (HasCleanDisk new → IsRecognised g old))
 
@@ -103,8 +103,8 @@ pub record KeepsArchive (old : State) (failed : Bool) (new : State) : Type 0 whe
       → LeavesArchive new society (λ found. found ≡ c)
   pub clean : HasCleanDisk old
 
--- an archive of the first version is taken up, and imports that were left open are taken out of it: then it is one of
--- the second version, holds anew what it held, and no import is open. It is refused only for want of memory, or because
+-- an archive of the first version is taken up, and imports that were left open are removed from it: then it is one of
+-- the second version, holds anew what it held, and no import is open. It is refused only if out of memory, or because
 -- the database failed; unless the latter, the connection has it, in one of the two versions. Whatever a crash may leave
 -- holds it, in one of the two versions
 pub record TakesUpAnew (old : State) (result : Result (Unit {0}) RefusalKind) (new : State) : Type 0 where
@@ -115,9 +115,9 @@ pub record TakesUpAnew (old : State) (result : Result (Unit {0}) RefusalKind) (n
   pub refused : IfErr result (λ kind. (society : List ℕ) (c : Content) → HadArchive society c old → IsFailure kind)
   pub crash : (society : List ℕ) (c : Content) → HadArchive society c old → LeavesHeld new society c
 
--- an archive is taken up, and imports that were left open are taken out of it: then none is open. It is refused only
--- for want of memory, or because the database failed. Where none was left open it keeps its rows, and a crash leaves
--- just these. One of the first version is made anew
+-- an archive is taken up, and imports that were left open are removed from it: then none is open. It is refused only
+-- if out of memory, or because the database failed. Where none was left open it keeps its rows, and a crash leaves
+-- just these. One of the first version is converted
 pub record TakesUp (old : State) (result : Result (Unit {0}) RefusalKind) (new : State) : Type 0 where
   pub keeps : KeepsArchive old (has_broken result) new
   pub finished : OnOk result ((society : List ℕ) (c : Content) → HasArchive society c old → HasNoImport new)
@@ -126,7 +126,7 @@ pub record TakesUp (old : State) (result : Result (Unit {0}) RefusalKind) (new :
       → (has_broken result ≡ false → Settled new rows) × LeavesOnly new rows
   pub anew : TakesUpAnew old result new
 
--- ---- imports are taken out
+-- ---- imports are removed
 -- settled tables that have spans, or that have none, of which the batch of commands is closed
 pub record IsToClear (has_spans : Bool) (s : State) (rows : Rows) : Type 0 where
   pub settled : Settled s rows
@@ -143,7 +143,7 @@ pub record StaysSettled (old new : State) : Type 0 where
   pub same : (rows : Rows) → Settled old rows → AreAllClosed rows → Settled new rows × LeavesOnly new rows
   pub seen : (rows : Rows) → rows.version ≡ 1 → IsToClear false old rows → ShowsSeen new rows × LeavesSeen new rows
 
--- imports are taken out of such tables: then every batch is closed. Unless the database failed the same is seen of
+-- imports are removed of such tables: then every batch is closed. Unless the database failed the same is seen of
 -- them, and a crash leaves that in any case; where every batch was closed they keep their rows
 pub record ClearsImports (has_spans : Bool) (old : State) (result : Result (Unit {0}) RefusalKind)
     (new : State) : Type 0 where

@@ -82,7 +82,7 @@ pub record Stays (old : State) (failed : Bool) (new : State) : Type 0 where
   pub clean : HasCleanDisk old
 
 -- a call that reads: it answers this of what the archive holds, which stays, also after a stop; it is refused only for
--- want of memory, or because the database failed
+-- out of memory, or because the database failed
 pub record Reads {A : Type 0} (Is : List ℕ → Content → A → Type 0) (old : State) (result : Result A RefusalKind)
     (new : State) : Type 0 where
   pub read : IfOk result (λ (a : A). (society : List ℕ) (c : Content) → HasArchive society c old → Is society c a)

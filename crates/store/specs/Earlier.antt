@@ -1,5 +1,5 @@
 -- Archives of the first version: their dates were read by the grammar of that time, and they have no spans. What such
--- an archive holds is told anew, by the grammar of today. Rules of our own.
+-- an archive holds is said anew, by the grammar of today. Rules of our own.
 use Rattle.std.specs.Prelude.{◌≡◌, ◌⊎◌, ℕ, List}
 use Rattle.sqlite.specs.State.{State}
 use Rattle.sqlite.specs.Tree.{Trees}

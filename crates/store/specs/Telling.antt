@@ -1,4 +1,4 @@
--- What whoever wants to know how far an import is has been told of a request to import. Rules of our own.
+-- What whoever wants to know how far an import is has got of a request to import. Rules of our own.
 use Rattle.std.specs.Prelude.{◌≡◌, ◌≢◌, ◌⊎◌, ℕ, None, length}
 use Rattle.std.specs.FinMap.{get}
 use Rattle.archive_core.specs.declared.request.Request.{Request}
@@ -9,7 +9,7 @@ use Rattle.import_commits.specs.Commits.{IsWhole}
 use Rattle.store.specs.Importing.{IsAccepted}
 
 module _ {P : Type 0} (Tells : P → RowCount → P → Type 0) where
-  -- nothing was told, or how far an import went
+  -- nothing was reported, or how far an import went
   abbrev pub TellsImport : P → P → Type 0
   TellsImport old new = (new ≡ old) ⊎ ((all : ℕ) × TellsSome Tells all old new)
 

@@ -1,4 +1,4 @@
-//! An archive that is taken up: imports that were left open are taken out of it, and one of the first version is made
+//! An archive that is taken up: imports that were left open are removed from it, and one of the first version is made
 //! anew.
 
 ghost use Rattle.std.specs.Prelude.{◌≡◌, true, false, IfErr, IsTrue, OnErr, OnOk};
@@ -69,7 +69,7 @@ pub(crate) fn take_up<S: Alter>(alloc: Global, conn: &mut Connection<S>) -> Resu
     }
 }
 
-/// Takes up an archive of the first version: imports that were left open are taken out of it, and then it is made one
+/// Takes up an archive of the first version: imports that were left open are removed from it, and then it is made one
 /// of the second version. Refusals as of `remove_imports` and `renew_rows`.
 fn make_anew<S: Alter>(alloc: Global, conn: &mut Connection<S>) -> Result<(), RefusalKind>
     requires autocommit { conn.old.in_transaction ≡ false }
@@ -133,7 +133,7 @@ fn remove_imports<S: Alter>(
 }
 
 /// Whether an import was left open. Where the batch of commands is not closed, somebody else has spoilt the tables, and
-/// nothing is to be taken out of them.
+/// nothing is to be removed from them.
 fn has_open<S: Alter>(alloc: Global, conn: &mut Connection<S>) -> Result<bool, RefusalKind>
     requires autocommit { conn.old.in_transaction ≡ false }
     ensures looks { Looks (λ held some. some ≡ has_import held.batches)

@@ -147,7 +147,7 @@ impl<S: Alter> Archive<S> {
         }
     }
 
-    /// The archive that a store has. Imports that were left open are taken out of it; where none was, nothing is
+    /// The archive that a store has. Imports that were left open are removed from it; where none was, nothing is
     /// written. Then one of the first version is made one of the second, in one commit, and its dates are read anew.
     /// At a refusal the connection is handed back.
     ///
@@ -399,7 +399,7 @@ impl<S: Alter> Archive<S> {
         published
     }
 
-    /// Gives the import up that is open: its rows are taken out again, in commits of at most 256 rows.
+    /// Gives the import up that is open: its rows are removed again, in commits of at most 256 rows.
     ///
     /// 85: no import is open. 80: the database failed; the archive has to be opened again, and the import is gone then.
     /// Takes no memory outside of the database.

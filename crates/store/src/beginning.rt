@@ -21,6 +21,7 @@ ghost use Rattle.store.specs.Importing.{HasAnswered, HasBegun};
 ghost use Rattle.store.specs.Viewing.{OnReadable};
 
 use crate::archive::Archive;
+use crate::given::Given;
 use crate::performing::refusal_after;
 use archive_core::decide_import;
 use archive_state::Changes;
@@ -35,26 +36,27 @@ use sqlite::{Alter, Connection};
 use staging::OpenImport;
 use std::alloc::Global;
 
-/// Decides the import of a forest, and where it is accepted anew begins it: its batch is opened, in one commit. Answers
-/// what the import is to be answered, and the import; none where the answer was kept before, and nothing is written.
+/// Decides the import of a forest, gives the forest up, and where the import is accepted anew begins it: its batch is
+/// opened, in one commit. Answers what the import is to be answered, and the import; none where the answer was kept
+/// before, and nothing is written.
 ///
 /// Any refusal but 80 leaves the archive as it was. 80: the database failed, and the batch is opened or not.
-pub(crate) fn begin_on<S: Alter>(
+pub(crate) fn begin_on<S: Alter, F: Given>(
     alloc: Global,
     archive: &mut Archive<S>,
     token: &Token,
-    forest: &Forest,
+    given: F,
 ) -> Result<(Answer, Option<OpenImport>), Refusal>
     requires kept { archive.old.is_lost ≡ false }
     ensures begun { HasCleanDisk (state S.Store archive.new.conn) → IfOk result (λ begun. IfSome begun.1 (λ i.
         OnArchive (state S.Store archive.old.conn) (λ society c rows. HasBegun society c rows
-        (import_of token.now forest.now) begun.0 i (state S.Store archive.new.conn)))) }
+        (import_of token.now (F.forest_of given)) begun.0 i (state S.Store archive.new.conn)))) }
     ensures answered { HasCleanDisk (state S.Store archive.new.conn) → IfOk result (λ begun. begun.1 ≡ None
         → OnArchive (state S.Store archive.old.conn) (λ society c rows. HasAnswered c rows
-        (import_of token.now forest.now) begun.0 (state S.Store archive.new.conn))) }
+        (import_of token.now (F.forest_of given)) begun.0 (state S.Store archive.new.conn))) }
     ensures refused { HasCleanDisk (state S.Store archive.new.conn) → IfErr result (λ e. is_storage e.kind ≡ false
         → OnArchive (state S.Store archive.old.conn) (λ society c rows.
-        Does c (import_of token.now forest.now) (Err e) c × Settled (state S.Store archive.new.conn) rows)) }
+        Does c (import_of token.now (F.forest_of given)) (Err e) c × Settled (state S.Store archive.new.conn) rows)) }
     ensures crash { HasCleanDisk (state S.Store archive.new.conn) → OnArchive (state S.Store archive.old.conn)
         (λ society c rows. LeavesArchive (state S.Store archive.new.conn) society (λ found. found ≡ c)) }
     ensures repeated { HasCleanDisk (state S.Store archive.new.conn) → OnArchive (state S.Store archive.old.conn)
@@ -67,29 +69,30 @@ pub(crate) fn begin_on<S: Alter>(
     ensures whole { IfOk result (λ begun. IfSome begun.1 (λ i. IsWhole i.batch i.changes i)) }
     ensures ended { archive.new.conn.in_transaction ≡ false }
 {
-    match try_begin(alloc, archive, token, forest) {
+    match try_begin(alloc, archive, token, given) {
         Ok(begun) => Ok(begun),
         Err(refusal) => Err(refusal_after(&mut archive.conn, refusal)),
     }
 }
 
 /// The same, before it is known whether the connection still answers.
-fn try_begin<S: Alter>(
+fn try_begin<S: Alter, F: Given>(
     alloc: Global,
     archive: &mut Archive<S>,
     token: &Token,
-    forest: &Forest,
+    given: F,
 ) -> Result<(Answer, Option<OpenImport>), Refusal>
     requires kept { archive.old.is_lost ≡ false }
     ensures begun { HasCleanDisk (state S.Store archive.new.conn) → IfOk result (λ begun. IfSome begun.1 (λ i.
         OnArchive (state S.Store archive.old.conn) (λ society c rows. HasBegun society c rows
-        (import_of token.now forest.now) begun.0 i (state S.Store archive.new.conn)))) }
+        (import_of token.now (F.forest_of given)) begun.0 i (state S.Store archive.new.conn)))) }
     ensures answered { HasCleanDisk (state S.Store archive.new.conn) → IfOk result (λ begun. begun.1 ≡ None
         → OnArchive (state S.Store archive.old.conn) (λ society c rows. HasAnswered c rows
-        (import_of token.now forest.now) begun.0 (state S.Store archive.new.conn))) }
+        (import_of token.now (F.forest_of given)) begun.0 (state S.Store archive.new.conn))) }
     ensures refused { HasCleanDisk (state S.Store archive.new.conn)
         → IfErr result (λ e. is_storage e.kind ≡ false → OnArchive (state S.Store archive.old.conn) (λ society c rows.
-        Does c (import_of token.now forest.now) (Err e) c × LeavesOnly (state S.Store archive.new.conn) rows)) }
+        Does c (import_of token.now (F.forest_of given)) (Err e) c
+        × LeavesOnly (state S.Store archive.new.conn) rows)) }
     ensures crash { HasCleanDisk (state S.Store archive.new.conn) → OnArchive (state S.Store archive.old.conn)
         (λ society c rows. LeavesArchive (state S.Store archive.new.conn) society (λ found. found ≡ c)) }
     ensures repeated { HasCleanDisk (state S.Store archive.new.conn) → OnArchive (state S.Store archive.old.conn)
@@ -103,7 +106,7 @@ fn try_begin<S: Alter>(
 {
     nothing_is_there_of_the_next_batch();
     an_import_that_is_begun_is_in_no_view();
-    match decide_import_on(alloc, archive, token, forest) {
+    match decide_given(alloc, archive, token, given) {
         Ok(changes) => {
             let answer = changes.answer;
             match open_import(alloc, &mut archive.conn, changes) {
@@ -144,6 +147,38 @@ fn open_import<S: Alter>(
         Ok(import) => Ok(Some(import)),
         Err(kind) => Err(kind),
     }
+}
+
+/// What the import of a forest changes in an archive, as `decide_import_on` says. The forest is given up then.
+fn decide_given<S: Alter, F: Given>(
+    alloc: Global,
+    archive: &mut Archive<S>,
+    token: &Token,
+    given: F,
+) -> Result<Changes, Refusal>
+    requires kept { archive.old.is_lost ≡ false }
+    ensures decides { HasCleanDisk (state S.Store archive.new.conn)
+        → OnReadable (state S.Store archive.old.conn)
+        (λ _ c. Decides c result (outcome c (import_of token.now (F.forest_of given)))) }
+    ensures exact { HasCleanDisk (state S.Store archive.new.conn)
+        → OnReadable (state S.Store archive.old.conn)
+        (λ _ c. IfOk result (IsExactFor c (import_of token.now (F.forest_of given)))) }
+    ensures adds { HasCleanDisk (state S.Store archive.new.conn)
+        → OnReadable (state S.Store archive.old.conn) (λ _ c. IfOk result (OnlyAdds c)) }
+    ensures readable { HasCleanDisk (state S.Store archive.new.conn)
+        → OnReadable (state S.Store archive.old.conn) (λ _ _. IfErr result (λ e. e.kind ≢ BadStored)) }
+    ensures same { HasCleanDisk (state S.Store archive.new.conn)
+        → OnReadable (state S.Store archive.old.conn)
+        (λ rows _. OnOk result (Settled (state S.Store archive.new.conn) rows × (archive.new.failures ≡ 0))) }
+    ensures placed { IfErr result (λ e. is_stop e.kind ≡ true → e.at ≡ None) }
+    ensures crash { HasCleanDisk (state S.Store archive.new.conn)
+        → OnReadable (state S.Store archive.old.conn) (λ rows _. LeavesOnly (state S.Store archive.new.conn) rows) }
+    ensures clean { HasCleanDisk (state S.Store archive.new.conn) → HasCleanDisk (state S.Store archive.old.conn) }
+    ensures words { IsForest (F.forest_of given) }
+{
+    let decided = decide_import_on(alloc, archive, token, given.forest());
+    drop(given);
+    decided
 }
 
 /// What the import of a forest changes in an archive. It is refused as by `decide_import`, and with 80 where a look

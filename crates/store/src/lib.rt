@@ -10,6 +10,7 @@ mod committing;
 mod days;
 mod deciding;
 mod failing;
+mod given;
 mod importing;
 pub mod laws;
 mod looking;

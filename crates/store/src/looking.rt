@@ -1,4 +1,4 @@
-//! An archive that is looked at alone, with an import set aside that is open on it.
+//! An archive that is only looked at, with an import set aside that is open on it.
 
 ghost use Rattle.std.specs.Prelude.{◌≡◌, None};
 

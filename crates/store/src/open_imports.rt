@@ -154,7 +154,7 @@ fn answer_of(import: &OpenImport) -> Answer
     import.changes().answer
 }
 
-/// Gives the import up that is open: its rows are taken out. 85: none is.
+/// Gives the import up that is open: its rows are removed. 85: none is.
 pub(crate) fn abandon_open<S: Alter>(
     conn: &mut Connection<S>,
     import: &mut Option<OpenImport>,

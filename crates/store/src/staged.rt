@@ -45,7 +45,7 @@ use staging::{OpenImport, Progress, RowCount};
 use std::alloc::Global;
 
 /// Imports a forest into an archive, in commits of at most 256 rows; the last of them publishes all. After any refusal
-/// but 80 the archive is as it was. How far it is is told to `progress`.
+/// but 80 the archive is as it was. How far it is is reported to `progress`.
 pub(crate) fn import_on<S: Alter, P: Progress>(
     alloc: Global,
     archive: &mut Archive<S>,
@@ -114,7 +114,7 @@ pub(crate) fn finish_begun<S: Alter, P: Progress>(
     }
 }
 
-/// Writes the rows of an import that are left, and publishes it. Where memory was refused it is taken out again.
+/// Writes the rows of an import that are left, and publishes it. Where memory was refused it is removed again.
 ///
 /// 1: memory was refused, and the rows are those of before. 80: the database failed, and the import is done or not.
 fn finish_on<S: Alter, P: Progress>(
@@ -187,7 +187,7 @@ fn stage_all<S: Alter, P: Progress>(
     Ok(())
 }
 
-/// What an import is refused with that goes no further: it is taken out again where memory was refused.
+/// What an import is refused with that goes no further: it is removed again where memory was refused.
 fn give_up<S: Alter>(
     conn: &mut Connection<S>,
     import: &OpenImport,

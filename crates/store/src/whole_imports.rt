@@ -11,7 +11,6 @@ ghost use Rattle.std.specs.Prelude.{
   Err,
   IfOk,
   IfErr,
-  IfSome,
   IsSome,
   IsTrue,
   OnOk,
@@ -20,16 +19,13 @@ ghost use Rattle.std.specs.FinMap.{get};
 ghost use Rattle.sqlite.specs.State.{HasCleanDisk};
 ghost use Rattle.sqlite.specs.Held.{state};
 ghost use Rattle.record_text.specs.declared.refusal.RefusalKind.TheVariants as refusal;
-ghost use Rattle.archive_core.specs.Machine.{Does, import_of};
+ghost use Rattle.archive_core.specs.Machine.{import_of};
 ghost use Rattle.archive_core.specs.Steps.{refused_at};
 ghost use Rattle.archive_core.specs.declared.request.Request.{Request};
 ghost use Rattle.archive_state.specs.Looks.{is_stop};
 ghost use Rattle.store_tables.specs.Calls.{LeavesOnly, Settled};
-ghost use Rattle.import_commits.specs.Commits.{IsWhole};
-ghost use Rattle.store.specs.Archives.{LeavesArchive};
 ghost use Rattle.store.specs.Calls.{Acknowledges, OnArchive, Performs};
 ghost use Rattle.store.specs.Histories.{has_failed, is_storage};
-ghost use Rattle.store.specs.Importing.{HasAnswered, HasBegun};
 ghost use Rattle.store.specs.Lives.{IsCall};
 ghost use Rattle.store.specs.Standing.{heard, must_wait, shuts, standing};
 ghost use Rattle.store.specs.Telling.{TellsDone, TellsImport};
@@ -42,12 +38,12 @@ use gedcom_tree::Forest;
 use receipts::{Answer, Token};
 use record_text::{Refusal, RefusalKind};
 use sqlite::Alter;
-use staging::{OpenImport, Progress};
+use staging::Progress;
 use std::alloc::Global;
 
 impl<S: Alter> Archive<S> {
     /// Imports a forest, as `perform` does the request of its import. The forest is given up before the first row is
-    /// written, and `progress` is told how far it is.
+    /// written, and `progress` gets how far it is.
     ///
     /// Refusals as of `perform`.
     pub fn import<P: Progress>(
@@ -128,45 +124,11 @@ fn import_whole<S: Alter, P: Progress>(
         (state S.Store archive.old.conn) (λ society c rows. TellsDone P.Tells c (import_of token.now forest)
         progress.old progress.new)) }
 {
-    match begin_given(alloc, archive, token, forest) {
+    match begin_on(alloc, archive, token, forest) {
         Ok((answer, begun)) => match finish_begun(alloc, &mut archive.conn, begun, progress) {
             Ok(()) => Ok(answer),
             Err(kind) => Err(Refusal { kind, at: None }),
         },
         Err(refusal) => Err(refusal),
     }
-}
-
-/// Begins the import of a forest as `begin_on` does, and gives the forest up.
-fn begin_given<S: Alter>(
-    alloc: Global,
-    archive: &mut Archive<S>,
-    token: &Token,
-    forest: Forest,
-) -> Result<(Answer, Option<OpenImport>), Refusal>
-    requires kept { archive.old.is_lost ≡ false }
-    ensures begun { HasCleanDisk (state S.Store archive.new.conn) → IfOk result (λ begun. IfSome begun.1 (λ i.
-        OnArchive (state S.Store archive.old.conn) (λ society c rows. HasBegun society c rows
-        (import_of token.now forest) begun.0 i (state S.Store archive.new.conn)))) }
-    ensures answered { HasCleanDisk (state S.Store archive.new.conn) → IfOk result (λ begun. begun.1 ≡ None
-        → OnArchive (state S.Store archive.old.conn) (λ society c rows. HasAnswered c rows
-        (import_of token.now forest) begun.0 (state S.Store archive.new.conn))) }
-    ensures refused { HasCleanDisk (state S.Store archive.new.conn) → IfErr result (λ e. is_storage e.kind ≡ false
-        → OnArchive (state S.Store archive.old.conn) (λ society c rows.
-        Does c (import_of token.now forest) (Err e) c × Settled (state S.Store archive.new.conn) rows)) }
-    ensures crash { HasCleanDisk (state S.Store archive.new.conn) → OnArchive (state S.Store archive.old.conn)
-        (λ society c rows. LeavesArchive (state S.Store archive.new.conn) society (λ found. found ≡ c)) }
-    ensures repeated { HasCleanDisk (state S.Store archive.new.conn) → OnArchive (state S.Store archive.old.conn)
-        (λ society c rows.
-        get c.receipts token.now ≢ None → LeavesOnly (state S.Store archive.new.conn) rows) }
-    ensures placed { IfErr result (λ e. is_stop e.kind ≡ true → e.at ≡ None) }
-    ensures quiet { HasCleanDisk (state S.Store archive.new.conn) → OnArchive (state S.Store archive.old.conn)
-        (λ society c rows. OnOk result (archive.new.failures ≡ 0)) }
-    ensures clean { HasCleanDisk (state S.Store archive.new.conn) → HasCleanDisk (state S.Store archive.old.conn) }
-    ensures whole { IfOk result (λ begun. IfSome begun.1 (λ i. IsWhole i.batch i.changes i)) }
-    ensures ended { archive.new.conn.in_transaction ≡ false }
-{
-    let begun = begin_on(alloc, archive, token, &forest);
-    drop(forest);
-    begun
 }

@@ -128,7 +128,7 @@ none_drawn s all = record {
   draws = λ clean. ([], λ more are. are, λ rows has was. (was, refl));
 }
 
--- ---- all changes: what goes with what is taken out, the changes, and what goes with what is put
+-- ---- all changes: what goes with what is removed, the changes, and what goes with what is put
 pub dated_all : {A E : Type 0} (r : Result A E) (a b c d : State) (changes : Changes)
     → FollowsDated a b (without_all_of changes.removals) → FollowsDated b c (with_changes changes)
     → OnOk r ((drawn : Drawn) × AreDrawn changes.puts drawn × FollowsDated c d (with_all_of changes.puts drawn))

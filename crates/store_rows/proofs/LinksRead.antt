@@ -90,7 +90,7 @@ put_or_there q l (m ∷ ms) = go (pair_cmp m l) refl (put_or_there q l ms)
         ∙ ap (λ x. q l || (q x || list_any q ms)) (sym (same_row l m is))
     go Greater is more = refl
 
--- a pair that is there stays, but for the one that is taken out
+-- a pair that is there stays, but for the one that is removed
 left_or_it : (t n u k : ℕ) (ls : List LinkRow) → has_link u k ls ≡ true
     → (((t == u) && (n == k)) || has_link u k (filter (λ l. not (is_pair t n l)) ls)) ≡ true
 left_or_it t n u k [] h = absurd cc
@@ -180,7 +180,7 @@ linked_puts n (p ∷ ps) o rows h =
     linked_puts n ps (cond (p.number == n) (Some p.«record») o) (with_links p.number (stored p.«record») rows)
     (put_linked n p o rows h)
 
--- a number that is taken out has nothing that it is to be linked to
+-- a number that is removed has nothing that it is to be linked to
 pub linked_left : (n : ℕ) (ns : List ℕ) (o : Option Record) (ls : List LinkRow) → AreLinked n o ls
     → AreLinked n (last_of (λ k. k) (λ _. None) n ns o) ls
 linked_left n [] o ls h = h

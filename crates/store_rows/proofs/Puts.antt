@@ -1,4 +1,4 @@
--- What the rows mean after records are put and taken out, number by number.
+-- What the rows mean after records are put and removed, number by number.
 use Rattle.std.proofs.Common.{
   ◌≡◌,
   ◌≢◌,

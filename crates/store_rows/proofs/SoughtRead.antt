@@ -1,4 +1,4 @@
--- What the rows say that each number is looked for by, after that of records is put and taken out.
+-- What the rows say that each number is looked for by, after that of records is put and removed.
 use Rattle.std.proofs.Common.{◌≡◌, ℕ, true, false, List, [], ◌∷◌, cond, refl, sym, ap, ◌∙◌}
 use Rattle.std.specs.Prelude.{◌==◌, Option, Some, None}
 use Rattle.record_kinds.specs.declared.record.Record.{Record}

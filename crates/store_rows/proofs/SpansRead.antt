@@ -1,4 +1,4 @@
--- The span that the rows have of each number, after spans are put and taken out.
+-- The span that the rows have of each number, after spans are put and removed.
 use Rattle.std.proofs.Common.{◌≡◌, ℕ, true, false, List, [], ◌∷◌, cond, refl, sym, ap, ◌∙◌, ◌⊎◌, inl, inr}
 use Rattle.std.specs.Prelude.{◌==◌, Option, Some, None}
 use Rattle.gedcom_date.specs.declared.value.Span.{Span}
@@ -83,7 +83,7 @@ spans_drawn n (d ∷ ds) rows =
     ∙ ap (last_of (λ (k : ℕ × Option Span). k.0) (λ (k : ℕ × Option Span). k.1) n ds) (span_drawn n d.0 d.1 rows)
 
 -- ---- what is at a number, with its span
--- a number that is taken out has no record, and each other keeps its record and its span
+-- a number that is removed has no record, and each other keeps its record and its span
 abbrev pub IsGone : ℕ → List ℕ → Type 0
 IsGone n ns = (o : Option Record) → last_of (λ k. k) (λ _. None) n ns o ≡ None
 

@@ -1,4 +1,4 @@
--- Slips put one after the other, of each number the first row alone.
+-- Slips put one after the other, of each number only the first row.
 use Rattle.std.proofs.Common.{
   ◌≡◌,
   ◌≢◌,

@@ -52,7 +52,7 @@ abbrev pub with_all_links : List Numbered → Rows → Rows
 with_all_links [] rows = rows
 with_all_links (p ∷ ps) rows = with_all_links ps (with_links p.number (stored p.«record») rows)
 
--- these are taken out
+-- these are removed
 abbrev pub without_all_links : List LinkRow → Rows → Rows
 without_all_links [] rows = rows
 without_all_links (l ∷ ls) rows = without_all_links ls (without_link l.target l.no rows)

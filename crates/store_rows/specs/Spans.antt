@@ -60,7 +60,7 @@ abbrev pub without_all_spans : List ℕ → Rows → Rows
 without_all_spans [] rows = rows
 without_all_spans (n ∷ ns) rows = without_all_spans ns (without_span n rows)
 
--- the spans of what is taken out, and what it is looked for by, which go first, since each is of a row in `record`
+-- the spans of what is removed, and what it is looked for by, which go first, since each is of a row in `record`
 abbrev pub without_all_of : List ℕ → Rows → Rows
 without_all_of ns rows = without_all_sought ns (without_all_spans ns rows)
 

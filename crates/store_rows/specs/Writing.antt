@@ -46,7 +46,7 @@ abbrev pub with_all_lines : List Numbered → Rows → Rows
 with_all_lines [] rows = rows
 with_all_lines (p ∷ ps) rows = with_all_lines ps (with_changed_lines p.number (stored p.«record») rows)
 
--- the lines of all these numbers are taken out, and then their rows in `record`
+-- the lines of all these numbers are removed, and then their rows in `record`
 abbrev pub without_all_lines : List ℕ → Rows → Rows
 without_all_lines [] rows = rows
 without_all_lines (n ∷ ns) rows = without_all_lines ns (without_lines n rows)

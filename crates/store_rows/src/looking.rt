@@ -31,7 +31,7 @@ use store_tables::{
     LinkRow, ReceiptRow, RecordRow, keyed, links, read_records_by_batch, sides, soughts,
 };
 
-/// The record of a number, read of the rows of this number alone. No transaction may be open.
+/// The record of a number, read only of the rows of this number. No transaction may be open.
 ///
 /// 40: the rows cannot be read, as where somebody else wrote them. 80: the database failed. 1: memory was refused. So
 /// of all calls below.
@@ -166,7 +166,7 @@ fn is_naming_found(found: &Option<Record>, named: u32) -> bool
     }
 }
 
-/// What is kept under a token, read of the rows of this token alone. Of two rows the later one is meant.
+/// What is kept under a token, read only of the rows of this token. Of two rows the later one is meant.
 pub fn receipt_at<S: Alter>(
     alloc: Global,
     conn: &mut Connection<S>,
@@ -180,7 +180,7 @@ pub fn receipt_at<S: Alter>(
     Ok(last_kept(keyed::receipts_at(alloc, conn, token)?))
 }
 
-/// The slip of a number, read of the rows of this slip alone.
+/// The slip of a number, read only of the rows of this slip.
 pub fn slip_at<S: Alter>(
     alloc: Global,
     conn: &mut Connection<S>,

@@ -92,7 +92,7 @@ module _ {X : Type 0} (key : X → ℕ) where
         | false ↦ λ e. ap (λ ys. x ∷ ys) (none_changed n g xs e)
       ] h
 
-  -- the one with the key, taken out and put again
+  -- the one with the key, removed and put again
   pub one_changed : (n : ℕ) (g : X → X) (x : X) (xs : List X) → IsAscending (λ a b. key a < key b) xs
       → filter (λ x. key x == n) xs ≡ x ∷ [] → key (g x) ≡ n
       → put_by key (g x) (filter (λ x. not (key x == n)) xs) ≡ changed_at key n g xs

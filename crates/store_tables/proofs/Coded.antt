@@ -134,7 +134,7 @@ module _ (at : ℕ → ℤ) (order : (m n : ℕ) → value_cmp (Int (at m)) (Int
   is_row x y = ap (λ v. is_eq (value_cmp v (Int (at (key y))))) (keyed x) ∙ same_at at order (key x) (key y)
       ∙ grind (arith, nat_tests)
 
-  -- the rows that a DELETE finds, in any order, are taken out
+  -- the rows that a DELETE finds, in any order, are removed
   pub deleted : (q : X → Bool) (xs : List X) (ids : List ℤ) → IsAscending (λ a b. key a < key b) xs
       → IsPermutation (map (λ x. at (key x)) (filter q xs)) ids
       → without_all (map enc xs) ids ≡ map enc (filter (λ x. not (q x)) xs)
@@ -241,7 +241,7 @@ module _ (at : ℕ → ℤ) (order : (m n : ℕ) → value_cmp (Int (at m)) (Int
     rise = put_rises key p xs was.rise;
   }
 
-  -- the rows that a query found, in any order, taken out
+  -- the rows that a query found, in any order, removed
   pub keeps_less_at : (q : X → Bool) (xs : List X) (rows : List Row) (ids : List ℤ)
       → IsPermutation (map (λ x. at (key x)) (filter q xs)) ids → Keeps enc key xs rows
       → Keeps enc key (filter (λ x. not (q x)) xs) (without_all rows ids)

@@ -56,7 +56,7 @@ module _ (sql : List ℕ) (params : Row) (of : IsOfSecond sql) where
     | inr commits ↦ absurd (no_commit old t rows.has_spans was.schema commits)
   ]
 
-  -- what it shows is told where there is the table
+  -- what it shows is known where there is the table
   pub where_second : {P : Type 0} (b : Bool) (old new : State) (all : List Row) → old.now.schema ≡ archive_schema b
       → Shown sql params old new all → (b ≡ true → P) → P
   where_second false old new all has h told = absurd (none_shown old new all has h)

@@ -268,7 +268,7 @@ same_read : {A E : Type 0} {P Q : Type 0} (r : Result A E) → (P → Q) → OnO
 same_read (Ok a) f h = f h
 same_read (Err e) f h = tt
 
--- queries that are plain under the schema of an archive are refused for a failure alone
+-- queries that are plain under the schema of an archive are refused only for a failure
 pub looks_prepared : {A : Type 0} (queries : List (List ℕ)) (b : Bool)
     → AllByRecursion (λ sql. IsPlain (understood (archive_schema b) sql)) queries
     → (old new : State) → old.now.schema ≡ archive_schema b → (result : Result A RefusalKind)

@@ -96,7 +96,7 @@ module _ {X : Type 0} (sql : List ℕ) (plain : IsPlain (understood (archive_sch
   pub shown_at : ShowsEach sql Shows old old items
   shown_at = (h.0, ends_as sql old mid h.0 plain_here kept h.1, h.2)
 
-  -- and so is what another query shows of the second schema alone, after it
+  -- and so is what another query shows only of the second schema, after it
   pub shown_before : {Y : Type 0} (other : List ℕ) → IsPlain (understood (archive_schema true) other)
       → (Shows : Row → Y → Type 0) (more : List Y) → ShowsEach other Shows mid mid more
       → ShowsEach other Shows old old more

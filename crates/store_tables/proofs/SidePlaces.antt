@@ -1,4 +1,4 @@
--- Where the sides of a slip stand among those of all slips: taken out, and then put in one after the other.
+-- Where the sides of a slip stand among those of all slips: removed, and then put in one after the other.
 use Rattle.std.proofs.Common.{
   ◌≡◌,
   ℕ,
@@ -53,7 +53,7 @@ behind n = filter (λ (s : SlipPackRow). nat_lt n s.slip)
 abbrev others : ℕ → List SlipPackRow → List SlipPackRow
 others n = filter (λ (s : SlipPackRow). not (s.slip == n))
 
--- ---- what stays when the sides of a slip are taken out
+-- ---- what stays when the sides of a slip are removed
 later_slip : (n : ℕ) (s t : SlipPackRow) → n < s.slip → IsU32 t.place → slip_place s < slip_place t → n < t.slip
 later_slip n s t high low over = omega (arith, high, low, over)
 
@@ -67,7 +67,7 @@ none_before n s high (t ∷ ts) typed rise =
     let off = not_before t.slip n (later_slip n s t high typed.0.place rise.0) in
     rw off (none_before n s high ts typed.1 rise.1)
 
--- how a number and another compare, told by each test
+-- how a number and another compare, by each test
 less_tests : (m n : ℕ) → nat_cmp m n ≡ Less → ((m == n) ≡ false) × (nat_lt m n ≡ true) × (nat_lt n m ≡ false)
 less_tests m n e = (grind (arith, nat_tests, e), grind (arith, nat_tests, e), grind (arith, nat_tests, e))
 
@@ -189,7 +189,7 @@ pub record IsSoFar (old now : State) (n : ℕ) (all left : List SlipSide) (at : 
   pub survives : Survives old now (λ _. ⊥)
   pub follows : HasCleanDisk now → FollowsDated old now (with_slip_sides n done)
 
--- the sides of a slip were taken out
+-- the sides of a slip were removed
 pub none_so_far : (old now : State) (n : ℕ) (all : List SlipSide)
     → (HasCleanDisk now → FollowsDated old now (without_slip_sides n)) → Survives old now (λ _. ⊥)
     → ((rows : Rows) → rows.has_spans ≡ true → Inside old rows

@@ -167,7 +167,7 @@ pub others_of : (b : Bool) (old new : Trees) (edit : Edit) → Applies (archive_
     → Others old new edit.table.tree
 others_of b old new edit a t low off = a.others t off (no_early_index b t low)
 
--- nor is one of those that the second schema alone has
+-- nor is one of those that only the second schema has
 pub no_late_index : (t : ℕ) → 9 < t → t < 16 → IsNoIndex (archive_schema true) t
 no_late_index t high low = (omega (arith, high), (omega (arith, low), tt))
 

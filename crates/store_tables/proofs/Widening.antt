@@ -1,4 +1,4 @@
--- The tables that the second schema alone has, which are made without rows where the lines of the first one are gone.
+-- The tables that only the second schema has, which are made without rows where the lines of the first one are gone.
 use Rattle.std.proofs.Common.{◌≡◌, ℕ, List, [], ◌∷◌, ◌++◌, false, Ok, refl, sym, ap, subst, ◌∙◌}
 use Rattle.sqlite.specs.Change.{created, next_tree, KeepsRows}
 use Rattle.sqlite_catalog.specs.Listing.{IsSound}

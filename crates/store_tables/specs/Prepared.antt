@@ -43,7 +43,7 @@ history_queries = receipt_query ∷ slip_query ∷ slip_line_query ∷ []
 abbrev pub all_queries : List (List ℕ)
 all_queries = meta_query ∷ record_queries ++ history_queries
 
--- the query that reads the table of lines which the first schema alone has
+-- the query that reads the table of lines which only the first schema has
 abbrev pub line_query : List ℕ
 line_query = codes "SELECT no, depth, tag, text, dst FROM line ORDER BY rowid"
 
@@ -63,7 +63,7 @@ sought_query = codes "SELECT no, text, dst FROM sought ORDER BY no"
 abbrev pub drawn_queries : List (List ℕ)
 drawn_queries = span_query ∷ link_query ∷ sought_query ∷ []
 
--- the queries that read the tables which the second schema alone has
+-- the queries that read the tables which only the second schema has
 abbrev pub later_queries : List (List ℕ)
 later_queries = pack_query ∷ drawn_queries
 
@@ -72,7 +72,7 @@ abbrev pub queries_of : Version → List (List ℕ)
 queries_of First = all_queries ++ line_query ∷ []
 queries_of Second = all_queries ++ later_queries
 
--- the text is of a table that the second schema alone has, and changes nothing
+-- the text is of a table that only the second schema has, and changes nothing
 abbrev pub IsOfSecond : List ℕ → Type 0
 IsOfSecond sql = IsPlain (understood (archive_schema true) sql)
     × (understood (archive_schema false) sql ≡ Err NoSuchTable)

@@ -227,7 +227,7 @@ pub record Keeps {X : Type 0} (values : X → Row) (key : X → ℕ) (xs : List 
   pub is : tree ≡ map values xs
   pub rise : IsAscending (λ a b. key a < key b) xs
 
--- the rows of the tables that the second schema alone has
+-- the rows of the tables that only the second schema has
 pub record KeepsLater (packs : List PackRow) (spans : List SpanRow) (links : List LinkRow) (soughts : List SoughtRow)
     (t : Trees) : Type 0 where
   pub packs_kept : Keeps pack_values (λ (p : PackRow). p.no) packs (t 11)
@@ -402,7 +402,7 @@ with_later_tables rows = record rows { has_spans = true; lines = []; slip_lines 
 abbrev pub with_version : ℕ → Rows → Rows
 with_version version rows = record rows { version = version }
 
--- what a new archive holds: its meta row alone, and then batch 0, which is closed
+-- what a new archive holds: only its meta row, and then batch 0, which is closed
 abbrev pub bare : List ℕ → Rows
 bare society = record {
   version = 2;

@@ -64,7 +64,7 @@ abbrev pub ShowsPack : Row → ℕ × List (ℕ × Label) → Type 0
 ShowsPack row p = IsNumberAt row 0 p.0 × (column row 1 ≡ Words (first_tag p.1)) × (column row 2 ≡ Words (packed p.1))
     × (column row 3 ≡ number_or_null (first_target p.1))
 
--- a number alone
+-- only a number
 abbrev pub ShowsNumber : Row → ℕ → Type 0
 ShowsNumber row n = IsNumberAt row 0 n
 

@@ -1,4 +1,4 @@
-//! Batches: what one has is read; one is closed, or taken out with its rows, by calls inside a transaction.
+//! Batches: what one has is read; one is closed, or removed with its rows, by calls inside a transaction.
 
 ghost use Rattle.std.specs.Prelude.{◌≡◌, false, IfErr};
 ghost use Rattle.sqlite.specs.Held.{state};

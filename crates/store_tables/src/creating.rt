@@ -127,7 +127,7 @@ fn insert_meta<S: Alter>(tx: &mut Transaction<'_, S>, society: &Text) -> Result<
 }
 
 /// The indexes, what a new archive holds, and what makes it one of the second version: all as it is done to an archive
-/// of the first version that is made anew.
+/// of the first version that is converted.
 fn fill<S: Alter>(tx: &mut Transaction<'_, S>, society: &Text) -> Result<(), Error>
     ensures same_reference { tx.new.conn.ghost_name ≡ tx.old.conn.ghost_name }
     ensures ok { HasCleanDisk (state S.Store tx.new.conn.now)
@@ -143,7 +143,7 @@ fn fill<S: Alter>(tx: &mut Transaction<'_, S>, society: &Text) -> Result<(), Err
     spans::set_version(tx)
 }
 
-/// The tables that the second schema alone has, without rows, in an archive of the first schema, whose lines go, those
+/// The tables that only the second schema has, without rows, in an archive of the first schema, whose lines go, those
 /// of slips too.
 pub fn create_later_tables<S: Alter>(tx: &mut Transaction<'_, S>) -> Result<(), Error>
     ensures same_reference { tx.new.conn.ghost_name ≡ tx.old.conn.ghost_name }

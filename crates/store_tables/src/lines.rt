@@ -65,8 +65,8 @@ pub(crate) fn top_of(lines: &[StoredLine]) -> Option<&StoredLine>
     }
 }
 
-/// The row of a record with these lines, of which this is the first one, and this the packed text. The values are told
-/// by their number alone, since the table of lines of the first schema, which takes none of these, has a column more.
+/// The row of a record with these lines, of which this is the first one, and this the packed text. The values differ
+/// only by their number, since the table of lines of the first schema, which takes none of these, has a column more.
 fn insert_pack<S: Alter>(
     tx: &mut Transaction<'_, S>,
     number: u32,

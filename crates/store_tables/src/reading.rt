@@ -412,7 +412,7 @@ pub(crate) fn ask<S: Alter>(
     conn.query_all(sql, params)
 }
 
-/// All that a query shows of a table that the second schema alone has, with the program's types.
+/// All that a query shows of a table that only the second schema has, with the program's types.
 pub(crate) fn read_later<T: FromRow, S: Alter>(
     alloc: Global,
     conn: &mut Connection<S>,

@@ -218,7 +218,7 @@ impl Model for SoughtRow {
 }
 
 /// All rows of an archive but its spans, its links and what is looked for, in the order of their keys. Lines are in
-/// rows of their own in the first schema, and in `packs` in the second one; those of slips are told one by one of both.
+/// rows of their own in the first schema, and in `packs` in the second one; those of slips are read one by one of both.
 #[derive(Drop)]
 pub struct StoredRows {
     pub next: u64,

@@ -3,3 +3,4 @@ pub mod Growing
 pub mod Levels
 pub mod Relabel
 pub mod Listed
+pub mod Same

@@ -35,7 +35,7 @@ value_for None None = value.Text []
 abbrev pub line_of : Label → Line
 line_of l = record { tag = l.tag; value = value_for l.text l.target }
 
--- the codes by which values are told apart
+-- the codes by which values are distinguished
 abbrev pub value_in : Value → List ℕ ⊎ ℕ
 value_in (value.Text t) = inl t
 value_in (value.Ref n) = inr n

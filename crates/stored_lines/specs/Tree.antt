@@ -61,7 +61,7 @@ module _ {A B : Type 0} (f : A → B) where
     relabel_all none = none
     relabel_all (more t ts) = more (relabel t) (relabel_all ts)
 
--- The code of a tree, by which its values are told apart.
+-- The code of a tree, by which its values are distinguished.
 abbrev head : Gv → Gv
 head gnil = gnil
 head (gnum n) = gnil

@@ -1,7 +1,9 @@
-//! Stored lines compared.
+//! Stored lines and branches compared.
 
 ghost use Rattle.std.specs.Prelude.{◌≡◌, ◌↔◌, IsTrue};
+ghost use Rattle.stored_lines.specs.Tree.{label};
 
+use crate::branch::Branch;
 use crate::stored::StoredLine;
 use record_text::Text;
 
@@ -27,6 +29,31 @@ fn is_same(a: &StoredLine, b: &StoredLine) -> bool
         && a.tag.as_str() == b.tag.as_str()
         && is_same_text(&a.text, &b.text)
         && a.target == b.target
+}
+
+/// Whether both branches are the same.
+pub fn are_same_branches(a: &Branch, b: &Branch) -> bool
+    ensures { IsTrue result ↔ (a.now ≡ b.now) }
+{
+    if !is_same_line(a, b) {
+        return false;
+    }
+    if a.children.len() != b.children.len() {
+        return false;
+    }
+    'children: for i in 0..a.children.len() {
+        if !are_same_branches(&a.children[i], &b.children[i]) {
+            return false;
+        }
+    }
+    true
+}
+
+/// Whether both branches begin with the same line.
+fn is_same_line(a: &Branch, b: &Branch) -> bool
+    ensures { IsTrue result ↔ (label a.now ≡ label b.now) }
+{
+    a.tag.as_str() == b.tag.as_str() && is_same_text(&a.text, &b.text) && a.target == b.target
 }
 
 fn is_same_text(a: &Option<Text>, b: &Option<Text>) -> bool

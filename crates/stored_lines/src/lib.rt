@@ -16,5 +16,5 @@ mod stored;
 
 pub use branch::{Branch, branches_of, carried_of, copied, value_of};
 pub use carried::{Carried, Value};
-pub use comparing::are_same;
+pub use comparing::{are_same, are_same_branches};
 pub use stored::{StoredLine, branch_of_lines, lines_of_branch};

@@ -60,35 +60,30 @@ impl Model for Grown {
 }
 
 /// The lines of a branch, in order, each with its depth.
-pub fn lines_of_branch(alloc: Global, branch: &Branch) -> Result<Vec<StoredLine>, AllocError>
-    ensures { IfOk result (λ lines. lines.items ≡ flat 0 branch.now) }
+pub fn lines_of_branch(alloc: Global, branch: Branch) -> Result<Vec<StoredLine>, AllocError>
+    ensures { IfOk result (λ lines. lines.items ≡ flat 0 branch) }
 {
     let mut lines = Vec::new(alloc);
-    push_branch(alloc, &mut lines, 0, branch)?;
+    push_branch(&mut lines, 0, branch)?;
     Ok(lines)
 }
 
 /// Adds the lines of a branch that stands at a depth.
-fn push_branch(
-    alloc: Global,
-    out: &mut Vec<StoredLine>,
-    depth: u32,
-    branch: &Branch,
-) -> Result<(), AllocError>
-    ensures { OnOk result (out.new.items ≡ out.old.items ++ flat depth branch.now) }
+fn push_branch(out: &mut Vec<StoredLine>, depth: u32, branch: Branch) -> Result<(), AllocError>
+    ensures { OnOk result (out.new.items ≡ out.old.items ++ flat depth branch) }
 {
     out.push(StoredLine {
         depth,
-        tag: branch.tag.copy(alloc)?,
-        text: copied(alloc, &branch.text)?,
+        tag: branch.tag,
+        text: branch.text,
         target: branch.target,
     })?;
     // No memory holds a branch that is deeper than that.
     let Some(below) = depth.checked_add(1) else {
         return Err(AllocError);
     };
-    'children: for child in &branch.children {
-        push_branch(alloc, out, below, child)?;
+    'children: for child in branch.children {
+        push_branch(out, below, child)?;
     }
     Ok(())
 }

@@ -96,7 +96,7 @@ pub record Judges (old : State) (result : Result ℕ RefusalKind) : Type 0 where
   pub bad : IfErr result (λ kind. (rows : Rows) → Settled old rows
       → IsFailure kind ⊎ ((kind ≡ BadStored) × AreNone rows))
 
--- the flaw that is told is so
+-- the flaw that is reported is so
 abbrev pub Tells : State → Audit → Type 0
 Tells old result = IfErr result (λ e. IfSome e.1 (λ flaw. (rows : Rows) → Settled old rows → AreFlawed flaw rows))
 

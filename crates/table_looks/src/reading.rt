@@ -36,7 +36,7 @@ use store_tables::spans::read_spans;
 ///
 /// 40: the tables are not good: they cannot be read, as where somebody else wrote them, or what they mean is not sound,
 /// or a record does not have the span of its date, its links, or what it is looked for by, and then what is wrong is
-/// told. 80: the database failed. 1: memory was refused.
+/// reported. 80: the database failed. 1: memory was refused.
 pub fn judge_tables<S: Alter>(
     alloc: Global,
     conn: &mut Connection<S>,

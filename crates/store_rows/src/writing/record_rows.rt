@@ -1,4 +1,4 @@
-//! The rows of records: of those that are put, and of those that are taken out.
+//! The rows of records: of those that are put, and of those that are removed.
 
 ghost use Rattle.std.specs.Prelude.{◌≡◌, OnOk};
 ghost use Rattle.sqlite.specs.Held.{state};

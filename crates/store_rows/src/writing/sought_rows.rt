@@ -1,4 +1,4 @@
-//! The rows of what is looked for: of the records that are put, and of those that are taken out.
+//! The rows of what is looked for: of the records that are put, and of those that are removed.
 
 ghost use Rattle.std.specs.Prelude.{◌≡◌, Some};
 ghost use Rattle.sqlite.specs.Held.{state};

@@ -1,4 +1,4 @@
-//! The rows of spans: of the records that are put, and of those that are taken out.
+//! The rows of spans: of the records that are put, and of those that are removed.
 
 ghost use Rattle.std.specs.Prelude.{◌≡◌, ◌∷◌, [], true, OnOk};
 ghost use Rattle.sqlite.specs.State.{HasCleanDisk};

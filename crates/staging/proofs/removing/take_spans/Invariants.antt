@@ -1,4 +1,4 @@
--- At each turn what is in front of the rest is taken out.
+-- At each turn what is in front of the rest is removed.
 use Rattle.std.proofs.Common.{◌≡◌, ◌++◌, ℕ, List, false, length}
 use Rattle.sqlite.specs.Held.{state}
 use Rattle.store_rows.specs.Spans.{without_all_of}

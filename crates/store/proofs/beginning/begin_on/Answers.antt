@@ -7,7 +7,7 @@ use Rattle.store.proofs.beginning.begin_on.Goals as goal
 
 pub returns-in-Err-clause-refused : goal.returns-in-Err-clause-refused
 returns-in-Err-clause-refused g c clean sure society content rows was keeps =
-    let r = import_of c.args.token.now c.args.forest.now in
+    let r = import_of c.args.token.now (g.F.Given.forest_of c.args.given) in
     let after = c.refusal_after.ensures in
     let before : HasCleanDisk (state g.S.Store c.try_begin.new.archive.conn) = omega
     (arith, after.survives.clean, clean) in

@@ -13,7 +13,7 @@ use Rattle.store.proofs.beginning.try_begin.Goals as goal
 -- it is accepted anew
 pub returns-in-Ok-open_import-clause-begun : goal.returns-in-Ok-open_import-clause-begun
 returns-in-Ok-open_import-clause-begun g c clean =
-    let r = import_of c.args.token.now c.args.forest.now in
+    let r = import_of c.args.token.now (g.F.Given.forest_of c.args.given) in
     let changes = c.in-Ok.changes in
     let made = c.in-Ok-open_import.ensures in
     let before = made.clean clean in
@@ -33,7 +33,7 @@ returns-in-Ok-open_import-clause-begun g c clean =
 -- the answer was kept before
 pub returns-in-Ok-open_import-clause-answered : goal.returns-in-Ok-open_import-clause-answered
 returns-in-Ok-open_import-clause-answered g c clean without society content rows was keeps =
-    let r = import_of c.args.token.now c.args.forest.now in
+    let r = import_of c.args.token.now (g.F.Given.forest_of c.args.given) in
     let changes = c.in-Ok.changes in
     let made = c.in-Ok-open_import.ensures in
     let before = made.clean clean in
@@ -48,7 +48,7 @@ returns-in-Ok-open_import-clause-answered g c clean without society content rows
 
 pub returns-in-Ok-open_import-clause-crash : goal.returns-in-Ok-open_import-clause-crash
 returns-in-Ok-open_import-clause-crash g c clean society content rows was keeps =
-    let r = import_of c.args.token.now c.args.forest.now in
+    let r = import_of c.args.token.now (g.F.Given.forest_of c.args.given) in
     let changes = c.in-Ok.changes in
     let made = c.in-Ok-open_import.ensures in
     let before = made.clean clean in
@@ -65,7 +65,7 @@ returns-in-Ok-open_import-clause-crash g c clean society content rows was keeps 
 
 pub returns-in-Ok-open_import-clause-repeated : goal.returns-in-Ok-open_import-clause-repeated
 returns-in-Ok-open_import-clause-repeated g c clean society content rows was keeps kept =
-    let r = import_of c.args.token.now c.args.forest.now in
+    let r = import_of c.args.token.now (g.F.Given.forest_of c.args.given) in
     let changes = c.in-Ok.changes in
     let made = c.in-Ok-open_import.ensures in
     let before = made.clean clean in
@@ -85,7 +85,7 @@ returns-in-Ok-open_import-clause-whole g c =
 -- its batch was not opened, or nobody knows whether it was
 pub returns-in-Err-open_import-clause-refused : goal.returns-in-Err-open_import-clause-refused
 returns-in-Err-open_import-clause-refused g c clean sure society content rows was keeps =
-    let r = import_of c.args.token.now c.args.forest.now in
+    let r = import_of c.args.token.now (g.F.Given.forest_of c.args.given) in
     let made = c.in-Err-open_import.ensures in
     let did = made.refused clean sure rows
     (c.in-Ok.ensures.same (made.clean clean) rows content was (seen_of keeps)).0 in
@@ -104,7 +104,7 @@ returns-in-Err-open_import-clause-crash g c clean society content rows was keeps
 
 pub returns-in-Err-open_import-clause-repeated : goal.returns-in-Err-open_import-clause-repeated
 returns-in-Err-open_import-clause-repeated g c clean society content rows was keeps kept =
-    let r = import_of c.args.token.now c.args.forest.now in
+    let r = import_of c.args.token.now (g.F.Given.forest_of c.args.given) in
     let made = c.in-Err-open_import.ensures in
     absurd (made.kept (writes_nothing content r c.in-Ok.changes
     (c.in-Ok.ensures.exact (made.clean clean) rows content was (seen_of keeps)) kept))
@@ -125,7 +125,7 @@ returns-in-Err-clause-refused g c clean sure society content rows was keeps =
 
 pub returns-in-Err-clause-crash : goal.returns-in-Err-clause-crash
 returns-in-Err-clause-crash g c clean society content rows was keeps =
-    only_leaves society content rows (state g.S.Store c.decide_import_on.new.archive.conn) keeps
+    only_leaves society content rows (state g.S.Store c.decide_given.new.archive.conn) keeps
     (c.in-Err.ensures.crash clean rows content was (seen_of keeps))
 
 pub returns-in-Err-clause-repeated : goal.returns-in-Err-clause-repeated

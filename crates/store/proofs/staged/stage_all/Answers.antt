@@ -69,7 +69,7 @@ returns-clause-clean g c = c.stages.invariant.clean
 pub returns-clause-ended : goal.returns-clause-ended
 returns-clause-ended g c = c.stages.invariant.ended
 
--- ---- what is told
+-- ---- what is known
 pub returns-in-Err-clause-told : goal.returns-in-Err-clause-told
 returns-in-Err-clause-told g c whole = some_told g.P.Progress.Tells (length c.args.import.now.left)
     c.stages.import.left c.stages.rows c.args.progress.now c.stages.progress (c.stages.invariant.told whole)

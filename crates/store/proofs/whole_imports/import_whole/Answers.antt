@@ -11,7 +11,7 @@ use Rattle.store.proofs.whole_imports.import_whole.Goals as goal
 pub returns-in-Ok-finish_begun-clause-acknowledged : goal.returns-in-Ok-finish_begun-clause-acknowledged
 returns-in-Ok-finish_begun-clause-acknowledged g c clean =
     let finished = c.in-Ok-finish_begun.ensures in
-    let mid = c.begin_given.new.archive.conn in
+    let mid = c.begin_on.new.archive.conn in
     let before = finished.clean clean in
     all_done g.S.Store (state g.S.Store c.args.archive.now.conn) mid c.finish_begun.new.conn
     (import_of c.args.token.now c.args.forest) c.in-Ok.answer c.in-Ok.begun (c.in-Ok.ensures.begun before)
@@ -20,7 +20,7 @@ returns-in-Ok-finish_begun-clause-acknowledged g c clean =
 pub returns-in-Ok-finish_begun-clause-performs : goal.returns-in-Ok-finish_begun-clause-performs
 returns-in-Ok-finish_begun-clause-performs g c clean =
     let finished = c.in-Ok-finish_begun.ensures in
-    let mid = c.begin_given.new.archive.conn in
+    let mid = c.begin_on.new.archive.conn in
     let before = finished.clean clean in
     let r = import_of c.args.token.now c.args.forest in
     let old = state g.S.Store c.args.archive.now.conn in
@@ -36,7 +36,7 @@ pub returns-in-Ok-finish_begun-clause-repeated : goal.returns-in-Ok-finish_begun
 returns-in-Ok-finish_begun-clause-repeated g c clean =
     let finished = c.in-Ok-finish_begun.ensures in
     let before = finished.clean clean in
-    none_anew g.S.Store (state g.S.Store c.args.archive.now.conn) c.begin_given.new.archive.conn c.finish_begun.new.conn
+    none_anew g.S.Store (state g.S.Store c.args.archive.now.conn) c.begin_on.new.archive.conn c.finish_begun.new.conn
     (import_of c.args.token.now c.args.forest) c.in-Ok.answer c.in-Ok.begun (c.in-Ok.ensures.begun before)
     (c.in-Ok.ensures.repeated before) finished.none
 
@@ -55,7 +55,7 @@ returns-in-Ok-finish_begun-clause-told_done g c clean =
     let finished = c.in-Ok-finish_begun.ensures in
     let before = finished.clean clean in
     told_done g.P.Progress.Tells (state g.S.Store c.args.archive.now.conn)
-    (state g.S.Store c.begin_given.new.archive.conn) (import_of c.args.token.now c.args.forest) c.in-Ok.answer
+    (state g.S.Store c.begin_on.new.archive.conn) (import_of c.args.token.now c.args.forest) c.in-Ok.answer
     c.in-Ok.begun c.args.progress.now c.finish_begun.new.progress c.in-Ok.ensures.whole (c.in-Ok.ensures.begun before)
     (c.in-Ok.ensures.answered before) finished.silent finished.told_all
 
@@ -69,7 +69,7 @@ returns-in-Err-finish_begun-clause-told g c =
 pub returns-in-Err-finish_begun-clause-performs : goal.returns-in-Err-finish_begun-clause-performs
 returns-in-Err-finish_begun-clause-performs g c clean =
     let finished = c.in-Err-finish_begun.ensures in
-    let mid = c.begin_given.new.archive.conn in
+    let mid = c.begin_on.new.archive.conn in
     let before = finished.clean clean in
     let kind = c.in-Err-finish_begun.kind in
     let r = import_of c.args.token.now c.args.forest in
@@ -91,7 +91,7 @@ returns-in-Err-finish_begun-clause-performs g c clean =
 pub returns-in-Err-finish_begun-clause-refused : goal.returns-in-Err-finish_begun-clause-refused
 returns-in-Err-finish_begun-clause-refused g c clean sure society content rows was keeps =
     let finished = c.in-Err-finish_begun.ensures in
-    (all_undone g.S.Store (state g.S.Store c.args.archive.now.conn) c.begin_given.new.archive.conn
+    (all_undone g.S.Store (state g.S.Store c.args.archive.now.conn) c.begin_on.new.archive.conn
     c.finish_begun.new.conn (import_of c.args.token.now c.args.forest) c.in-Ok.answer c.in-Err-finish_begun.kind
     c.in-Ok.begun finished.some (c.in-Ok.ensures.begun (finished.clean clean)) (finished.undone clean sure)
     society content rows was keeps).1
@@ -100,7 +100,7 @@ pub returns-in-Err-finish_begun-clause-repeated : goal.returns-in-Err-finish_beg
 returns-in-Err-finish_begun-clause-repeated g c clean =
     let finished = c.in-Err-finish_begun.ensures in
     let before = finished.clean clean in
-    none_anew g.S.Store (state g.S.Store c.args.archive.now.conn) c.begin_given.new.archive.conn c.finish_begun.new.conn
+    none_anew g.S.Store (state g.S.Store c.args.archive.now.conn) c.begin_on.new.archive.conn c.finish_begun.new.conn
     (import_of c.args.token.now c.args.forest) c.in-Ok.answer c.in-Ok.begun (c.in-Ok.ensures.begun before)
     (c.in-Ok.ensures.repeated before) finished.none
 
@@ -113,14 +113,14 @@ returns-in-Err-clause-performs g c clean =
     let begun = c.in-Err.ensures in
     let r = import_of c.args.token.now c.args.forest in
     let old = state g.S.Store c.args.archive.now.conn in
-    let new = state g.S.Store c.begin_given.new.archive.conn in
+    let new = state g.S.Store c.begin_on.new.archive.conn in
     refusal_performs old new r c.in-Err.refusal
     (λ sure society content rows was keeps.
     let did = begun.refused clean sure society content rows was keeps in (
       did.0,
       did.1,
       λ t l. only_committed new rows t did.1
-          (g.met.S.Store.settled c.begin_given.new.archive.conn.store t did.1.is_open l),
+          (g.met.S.Store.settled c.begin_on.new.archive.conn.store t did.1.is_open l),
     ))
     (λ society content rows was keeps.
     not_done new society content r (begun.crash clean society content rows was keeps))

@@ -1,4 +1,4 @@
--- What goes with what is taken out, the changes, and what goes with what is put.
+-- What goes with what is removed, the changes, and what goes with what is put.
 use Rattle.std.proofs.Common.{arith}
 use Rattle.archive_state.specs.Changes.{Changes}
 use Rattle.store_rows.proofs.Dated.{dated_all}

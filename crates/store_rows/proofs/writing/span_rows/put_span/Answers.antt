@@ -1,4 +1,4 @@
--- The span that its number had is taken out, and its own one put there.
+-- The span that its number had is removed, and its own one put there.
 use Rattle.std.proofs.Common.{refl, arith, [], ◌∷◌}
 use Rattle.store_tables.specs.Rows.{without_span}
 use Rattle.store_rows.specs.Spans.{with_span_if}
