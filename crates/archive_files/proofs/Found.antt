@@ -10,7 +10,7 @@ use Rattle.sqlite_store.specs.declared.store.FileStore.{FileStore}
 use Rattle.sqlite_store.specs.FileStore.{recovers, state, view}
 use Rattle.sqlite_wal.specs.Recovery.{Image}
 
--- a store that is numbered, has databases alone to leave, and none that the connection might not have left
+-- a store that is numbered, has only databases to leave, and none that the connection might not have left
 pub found_again : {D : Type 0} {g : disk.Ghosts D} (conn : Held (FileStore D g)) (last : FileStore D g)
     → IsTrue (view last).is_numbered → AreDatabases (recovers last)
     → ((t : Trees) → recovers last t → (file_state conn).may_leave t) → (after : Image) → (state last).may_leave after

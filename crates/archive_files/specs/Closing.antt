@@ -25,7 +25,7 @@ module _ {D : Type 0} {g : disk.Ghosts D} where
     pub found : (after : Image) → May after
         → ∥ ((t : Trees) × (file_state conn).may_leave t × HoldsDatabase after t) ∥₁
 
-  -- the log was copied: what was committed last is in the database file alone, as it reads now and after a crash
+  -- the log was copied: what was committed last is only in the database file, as it reads now and after a crash
   pub record IsCopiedOver (conn : Held (FileStore D g)) (files : Files D) : Type 0 where
     pub closed : (last : FileStore D g) × (files_of last ≡ (files.log, files.db)) × IsClosed conn last
     pub copied : AreClean g files.log files.db → IsCopied conn files

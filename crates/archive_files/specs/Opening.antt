@@ -51,7 +51,7 @@ LeavesJust t kind s = ((left : Trees) → s.may_leave left → left ≡ t)
     × (is_foreign kind ≡ true → (s.now.trees ≡ t) × (s.committed.trees ≡ t))
 
 -- the tables are left as they were; or they were recognised, and they were refused by 1, 40 or 80 while imports were
--- taken out of them, or while they were written anew
+-- removed of them, or while they were written anew
 abbrev pub IsAsHeld : {D : Type 0} → disk.Ghosts D → RefusalKind → State → Trees → Type 0
 IsAsHeld g kind s t = LeavesJust t kind s ⊎ ((is_stop kind ≡ true) × WereRecognised g t)
 
@@ -70,7 +70,7 @@ module _ {D : Type 0} {g : disk.Ghosts D} where
         × HasNoImport (file_state a.conn) × LeavesArchive (file_state a.conn) society (λ found. found ≡ c))
     pub recognised : HasCleanDisk (file_state a.conn) → OfTables image (WereRecognised g)
 
-  -- the file was opened, and no archive is taken up: one that it held is refused only for want of memory, or because
+  -- the file was opened, and no archive is taken up: one that it held is refused only if out of memory, or because
   -- the database failed, and a crash leaves it; whatever it held, it is refused for a reason, and is as it was
   pub record IsRefused (image : Image) (kind : RefusalKind) (conn : Held (FileStore D g)) : Type 0 where
     pub ended : conn.in_transaction ≡ false

@@ -18,7 +18,7 @@ use store::Archive;
 pub type ArchiveFile<S> = Archive<FileStore<FileFrom<S>>>;
 
 /// The archive in a file. The file is looked at first, since to open one that is not there would make it, and to open
-/// one of no bytes would make a database of it. Imports that were left open are taken out of it, and one of the first
+/// one of no bytes would make a database of it. Imports that were left open are removed from it, and one of the first
 /// version is made one of the second. What is left of the file is handed back with a refusal.
 ///
 /// 82: there is no file, or it has no archive. 83: a later program made it; at both no log stays beside it that was not

@@ -14,7 +14,7 @@ use Rattle.imports.specs.Results.{IsUnreported}
 use Rattle.archive_input.specs.Importing.{Imports, ImportsAll, ImportsSilently, IsFileOf}
 use Rattle.archive_core.specs.Machine.{import_of}
 
--- what is told of the import of a forest, of the file that it was read from
+-- what is reported of the import of a forest, of the file that it was read from
 pub file_told : {A E X : Type 0} (input : Option (List ℕ)) (Q : List Item → Type 0) (forest : List Item)
     → IsFileOf input forest → (r : Result A E) → (X → OnOk r (Q forest))
     → OnOk r ((found : List Item) × IsFileOf input found × (X → Q found))

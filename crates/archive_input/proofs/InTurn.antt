@@ -1,4 +1,4 @@
--- Rows that were served each in its turn, and what is told of them.
+-- Rows that were served each in its turn, and what is reported of them.
 use Rattle.std.proofs.Common.{
   ◌≡◌,
   ◌+◌,
@@ -22,10 +22,10 @@ use Rattle.sqlite_trees.specs.declared.store.Store.{Ghosts}
 use Rattle.record_text.specs.declared.refusal.RefusalKind.{RefusalKind}
 use Rattle.request_csv.specs.Faults.{fault_text}
 use Rattle.archive_input.specs.Answers.{Served}
-use Rattle.archive_input.specs.RowByRow.{AreTold, IsTold, Moment, Serves, ServesAll, ServesUpTo}
+use Rattle.archive_input.specs.RowByRow.{AreTold, IsTold, Moment, Serves, ServesAll}
 
--- ---- what is told of a row
--- nothing was told of a row that was not refused
+-- ---- what is reported of a row
+-- nothing was reported of a row that was not refused
 pub not_refused : (number : ℕ) (o : Option RefusalKind) (told : Option (List ℕ)) → None ≡ o → IsTold number o told told
 not_refused number o told e = subst (λ (x : Option RefusalKind). IsTold number x told told) e refl
 
@@ -38,7 +38,7 @@ pub wants : (number : ℕ) (kind : RefusalKind) (told : Option (List ℕ)) → I
 wants number kind told = (fault_text number kind [], ([], refl), (0, omega arith, Appends-nil told))
 
 -- ---- rows one after the other
-none_more : (served : List Served) → served ≡ served ++ []
+pub none_more : (served : List Served) → served ≡ served ++ []
 none_more [] = refl
 none_more (s ∷ served) = ap (λ (more : List Served). s ∷ more) (none_more served)
 
@@ -73,16 +73,7 @@ module _ {S W F : Type 0} (g : Ghosts S) (written : W → Option (List ℕ)) (to
     all = all_more 1 (count + 1) served s a m b (omega (arith, turn.counted)) turn.all one;
   }
 
-  -- the call ended before the next row, or in it; of that one nothing was told
-  pub up_to : (count : ℕ) (served : List Served) (a m : Moment g W F) (faults : F) → InTurn count a m served
-      → faults ≡ m.faults → ServesUpTo g written told served a faults
-  up_to count served a m faults turn same = (served, [], none_more served, omega arith, m, turn.all, ap told same)
-
-  pub up_to_last : (count : ℕ) (served : List Served) (s : Served) (a m : Moment g W F) (faults : F)
-      → InTurn count a m served → faults ≡ m.faults → ServesUpTo g written told (served ++ s ∷ []) a faults
-  up_to_last count served s a m faults turn same = (served, s ∷ [], refl, omega arith, m, turn.all, ap told same)
-
-  -- what is told of rows that were served so
+  -- what is reported of rows that were served so
   pub all_told : (n : ℕ) (served : List Served) (a b : Moment g W F) → ServesAll g written told n served a b
       → AreTold n served (told a.faults) (told b.faults)
   all_told n [] a b all = ap (λ (m : Moment g W F). told m.faults) all

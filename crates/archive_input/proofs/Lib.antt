@@ -4,7 +4,9 @@ pub mod InTurn
 mod OnTheWay
 mod One
 mod Outcomes
+pub mod Refusals
 pub mod Refused
 mod Served
+mod Stopped
 mod Imported
 pub mod Told

@@ -41,7 +41,7 @@ use Rattle.store.specs.Shut.{is_shut}
 use Rattle.store.specs.declared.archive.Archive.{Archive}
 use Rattle.archive_input.specs.Answers.{Served, answer_text}
 use Rattle.archive_input.specs.Applying.{
-  Applied,
+  AppliedOf,
   AreServed,
   Ended,
   Ends,
@@ -54,7 +54,7 @@ use Rattle.archive_input.specs.Applying.{
   calls_of,
   is_in_doubt,
 }
-use Rattle.request_csv.specs.Input.{AreRows, Row}
+use Rattle.request_csv.specs.Input.{Row}
 use Rattle.request_csv.proofs.Taking.{Took, took_first, took_none}
 use Rattle.archive_input.proofs.Outcomes.{by_bool}
 use Rattle.archive_input.proofs.Served.{
@@ -102,9 +102,9 @@ abbrev pub OnTheWayWith : {S : Type 0} (g : Ghosts S) (known left : Option (List
     (before after : Option (List ℕ)) (old new : Archive S g) → (List Served → Type 0) → Type 0
 OnTheWayWith g known left at before after old new P = (w : OnTheWay g known left at before after old new) × P w.served
 
-abbrev pub AppliedWith : {S : Type 0} (g : Ghosts S) (known before after : Option (List ℕ)) (old new : Archive S g)
-    → (List Served → Type 0) → Type 0
-AppliedWith g known before after old new P = (all : Applied g known before after old new) × P all.served
+abbrev pub AppliedWith : (Option (List ℕ) → List Row → Type 0) → {S : Type 0} (g : Ghosts S)
+    (known before after : Option (List ℕ)) (old new : Archive S g) → (List Served → Type 0) → Type 0
+AppliedWith AreOf g known before after old new P = (all : AppliedOf AreOf g known before after old new) × P all.served
 
 abbrev pub EndedWith : {S : Type 0} (g : Ghosts S) (kind : RefusalKind) (known before after : Option (List ℕ))
     (old new : Archive S g) → (List Served → Type 0) → Type 0
@@ -151,9 +151,9 @@ module _ {S : Type 0} (g : Ghosts S) (known left : Option (List ℕ)) (at : Stat
     p,
   )
 
-  pub all_applied : (P : List Served → Type 0) → P w.served → AreRows known w.rows
-      → AppliedWith g known before after old now P
-  all_applied P p all = (
+  pub all_applied : (AreOf : Option (List ℕ) → List Row → Type 0) (P : List Served → Type 0) → P w.served
+      → AreOf known w.rows → AppliedWith AreOf g known before after old now P
+  all_applied AreOf P p all = (
     record {
       rows = w.rows;
       served = w.served;

@@ -1,4 +1,4 @@
--- What is told of an import, as another sees it.
+-- What is reported of an import, as another sees it.
 use Rattle.std.proofs.Common.{ℕ, List}
 use Rattle.std.specs.Prelude.{Option}
 use Rattle.sqlite_trees.specs.declared.store.Store.{Ghosts}

@@ -20,7 +20,7 @@ outcome_row token (Err e) = refused_row token e.kind
 abbrev pub Served : Type 0
 Served = Result Done BadRequest
 
--- the token is empty where none is told
+-- the token is empty where none is known
 abbrev pub answer_row : Served → List (List ℕ)
 answer_row (Ok done) = outcome_row done.0.token done.1
 answer_row (Err bad) = refused_row (unwrap_or bad.token []) bad.kind

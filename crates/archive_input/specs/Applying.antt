@@ -90,18 +90,23 @@ Ends kind served before after =
     ⊎ ((in_doubt (calls_of served) ≡ None) × (((kind ≡ ReadFailed) × Appends before after (answers served))
     ⊎ WritesPart kind before after (answers served)))
 
--- all rows were served and answered; an archive that took requests still takes them
-pub record Applied {S : Type 0} (g : Ghosts S) (input before after : Option (List ℕ))
-    (old new : Archive S g) : Type 0 where
+-- rows, which are these of an input, were served and answered; an archive that took requests still takes them
+pub record AppliedOf {S : Type 0} (AreOf : Option (List ℕ) → List Row → Type 0) (g : Ghosts S)
+    (input before after : Option (List ℕ)) (old new : Archive S g) : Type 0 where
   pub rows : List Row
   pub served : List Served
-  pub all : AreRows input rows
+  pub all : AreOf input rows
   pub each : AreServed rows served
   pub certain : in_doubt (calls_of served) ≡ None
   pub kept : is_shut old ≡ false → is_shut new ≡ false
   pub performed : PerformsAll g old (calls_of served) new
   pub refused : RefusesAll g old (calls_of served) new
   pub written : Appends before after (answers served)
+
+-- all rows were
+abbrev pub Applied : {S : Type 0} → (g : Ghosts S) → (input before after : Option (List ℕ))
+    → (old new : Archive S g) → Type 0
+Applied g input before after old new = AppliedOf AreRows g input before after old new
 
 -- the first rows were served, and then the call ended early; 80 loses the archive, and nothing else does
 pub record Ended {S : Type 0} (g : Ghosts S) (kind : RefusalKind) (input before after : Option (List ℕ))

@@ -40,7 +40,7 @@ abbrev pub ImportsAll : {S : Type 0} → (g : Ghosts S) → List ℕ → Option 
 ImportsAll g token input old answer said new =
     (all : Imports g token input old (Ok answer) new) × (said ≡ report all.forest)
 
--- it was accepted, and of it was told what is told of a request that is done
+-- it was accepted, and of it was reported what is reported of a request that is done
 abbrev pub TellsImported : {S P : Type 0} → (g : Ghosts S) → (P → RowCount → P → Type 0) → List ℕ → Option (List ℕ)
     → Archive S g → Archive S g → P → P → Type 0
 TellsImported g Tells token input old new before after = (forest : List Item) × IsFileOf input forest

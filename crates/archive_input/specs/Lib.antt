@@ -3,6 +3,7 @@ pub mod Applying
 pub mod Entering
 pub mod Requests
 pub mod RowByRow
+pub mod Stopping
 pub mod Faults
 pub mod Importing
 pub mod Telling

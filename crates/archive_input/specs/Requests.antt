@@ -10,7 +10,7 @@ use Rattle.commands.specs.declared.row_command.RowCommand.{RowCommand}
 use Rattle.archive_core.specs.declared.request.Request.{Request}
 use Rattle.archive_input.specs.declared.bad_request.BadRequest.{BadRequest}
 
--- a request; or why a row is none, with its token where that is told
+-- a request; or why a row is none, with its token where that is known
 abbrev pub Asked : Type 0
 Asked = Result Request BadRequest
 
@@ -44,7 +44,7 @@ AsksText (token ∷ fields) asked = (IsToken token × AsksUnder token fields ask
 abbrev pub Asks : List (List ℕ) → Asked → Type 0
 Asks row asked = (AllText row × AsksText row asked) ⊎ (¬ (AllText row) × (asked ≡ untold BadRow))
 
--- something is asked for of which P holds; want of memory may come in place of any
+-- something is asked for of which P holds; out of memory may come in place of any
 abbrev pub OrWants : Asked → (Asked → Type 0) → Type 0
 OrWants (Ok request) P = P (Ok request)
 OrWants (Err bad) P = is_want bad.kind ≡ false → P (Err bad)

@@ -1,5 +1,5 @@
 -- Rows one after the other: what a row leaves is what the next begins from, so its answer is with the writer before
--- the next is decided; and what is wrong with a row is told beside it. Rules of our own.
+-- the next is decided; and what is wrong with a row is reported beside it. Rules of our own.
 use Rattle.std.specs.Prelude.{
   ◌≡◌,
   ◌+◌,
@@ -25,7 +25,8 @@ use Rattle.request_csv.specs.Faults.{IsFault}
 use Rattle.store.specs.Histories.{Outcome}
 use Rattle.store.specs.declared.archive.Archive.{Archive}
 use Rattle.archive_input.specs.Answers.{Served, answer_text}
-use Rattle.archive_input.specs.Applying.{Applied, Ended, Steps, is_in_doubt}
+use Rattle.request_csv.specs.Input.{AreFirstRows}
+use Rattle.archive_input.specs.Applying.{Applied, AppliedOf, Ended, Steps, is_in_doubt}
 
 -- why a request was refused, or a row, where it was
 abbrev pub refusal_in : Outcome → Option RefusalKind
@@ -36,7 +37,7 @@ abbrev pub refusal_of : Served → Option RefusalKind
 refusal_of (Ok done) = refusal_in done.1
 refusal_of (Err bad) = Some bad.kind
 
--- of a row that was refused its line is told, or a beginning of it where memory is refused or the writer fails; of
+-- of a row that was refused its line is reported, or a beginning of it where memory is refused or the writer fails; of
 -- another nothing
 abbrev pub IsTold : ℕ → Option RefusalKind → Option (List ℕ) → Option (List ℕ) → Type 0
 IsTold number None before after = after ≡ before
@@ -57,7 +58,7 @@ pub record Moment {S : Type 0} (g : Ghosts S) (W F : Type 0) : Type 0 where
 -- `written` and `told` are what the two writers have got
 module _ {S W F : Type 0} (g : Ghosts S) (written : W → Option (List ℕ)) (told : F → Option (List ℕ)) where
   -- the row of this number from one moment to the next: its request is performed, its answer is written, and what is
-  -- wrong with it is told
+  -- wrong with it is reported
   pub record Serves (number : ℕ) (s : Served) (a b : Moment g W F) : Type 0 where
     pub performed : Steps g s a.archive b.archive
     pub certain : is_in_doubt s ≡ false
@@ -69,7 +70,7 @@ module _ {S W F : Type 0} (g : Ghosts S) (written : W → Option (List ℕ)) (to
   ServesAll number [] a b = b ≡ a
   ServesAll number (s ∷ served) a b = (m : Moment g W F) × Serves number s a m × ServesAll (number + 1) served m b
 
-  -- the same of all rows, but for the last, where the call ended early in it; of that one nothing is told
+  -- the same of all rows, but for the last, where the call ended early in it; of that one nothing is reported
   abbrev pub ServesUpTo : List Served → Moment g W F → F → Type 0
   ServesUpTo served a faults =
       (first : List Served) × (last : List Served) × (served ≡ first ++ last) × (length last ≤ 1)
@@ -79,6 +80,12 @@ module _ {S W F : Type 0} (g : Ghosts S) (written : W → Option (List ℕ)) (to
   abbrev pub AppliedInTurn : Option (List ℕ) → Moment g W F → Moment g W F → Type 0
   AppliedInTurn input a b = (all : Applied g input (written a.output) (written b.output) a.archive b.archive)
       × ServesAll 1 all.served a b
+
+  -- the first rows were, each in its turn
+  abbrev pub StoppedInTurn : Option (List ℕ) → Moment g W F → Moment g W F → Type 0
+  StoppedInTurn input a b =
+      (part : AppliedOf AreFirstRows g input (written a.output) (written b.output) a.archive b.archive)
+      × ServesAll 1 part.served a b
 
   -- the first rows were, and then the call ended early
   abbrev pub EndedInTurn : RefusalKind → Option (List ℕ) → Moment g W F → Moment g W F → Type 0

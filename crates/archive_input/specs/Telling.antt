@@ -1,4 +1,4 @@
--- What is told of an import. Rules of our own.
+-- What is reported of an import. Rules of our own.
 use Rattle.std.specs.Prelude.{◌++◌, ◌∷◌, [], ℕ, List, codes}
 use Rattle.std.specs.Fmt.{decimal}
 use Rattle.std.specs.List.{flat_map}

@@ -20,7 +20,7 @@ use store::Archive;
 /// Reads rows of register entries, and enters them on the archive as a batch of a source: all of them or none, in one
 /// commit, as one request under the token.
 ///
-/// Where a row is no entry, or memory or the reader is wanting, the refusal is that of `read_entries`, and the archive
+/// Where a row is no entry, or memory or the reader fails, the refusal is that of `read_entries`, and the archive
 /// is not touched. Else it is that of `Archive::perform`, whose place is the row that is refused.
 pub fn enter<S: Alter, R: Read + Device>(
     alloc: Global,

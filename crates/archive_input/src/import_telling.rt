@@ -8,7 +8,7 @@ use receipts::{Answer, Report, ReportLine};
 use std::alloc::{AllocError, Global};
 
 /// How many records were made, with the number of the first, and then a line for each line of the report. Refused only
-/// for want of memory.
+/// if out of memory.
 pub fn import_text(alloc: Global, answer: Answer, report: &Report) -> Result<String, AllocError>
     ensures { IfOk result (λ text. string_bytes text ≡ telling.import_text answer report.now) }
 {

@@ -26,10 +26,10 @@ use std::io::Read;
 use store::Archive;
 
 /// Reads a file of lines, and imports it into the archive: whole or not at all, as one request under the token. It
-/// answers what the request is answered, with the report of the file, which is that of its forest alone. How far it is
-/// is told to `progress`.
+/// answers what the request is answered, with the report of the file, which is only that of its forest. How far it is
+/// is reported to `progress`.
 ///
-/// Where the input is no file, or memory or the reader is wanting, the refusal is that of `read_forest`, with its line,
+/// Where the input is no file, or memory or the reader fails, the refusal is that of `read_forest`, with its line,
 /// and the archive is not touched. Else it is that of `Archive::import`, whose place is the line that is refused.
 /// Where memory for the report is refused, the request is done all the same, and is answered when it comes again.
 pub fn import<S: Alter, R: Read + Device, P: Progress>(

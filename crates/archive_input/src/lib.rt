@@ -6,8 +6,8 @@
 //!
 //! Callers may rely on:
 //! - a row asks for one request, or is refused for one reason; each row is answered by one row, which is written and
-//!   flushed before the next row is decided; what is wrong with a row is told beside it.
-//! - the file is read whole, and is imported by one request or not at all; the report is that of the file alone, also
+//!   flushed before the next row is decided; what is wrong with a row is reported beside it.
+//! - the file is read whole, and is imported by one request or not at all; the report is only that of the file, also
 //!   where the request was done before.
 #![tactic(auto)]
 
@@ -23,7 +23,7 @@ mod request;
 mod serving;
 mod telling;
 
-pub use applying::apply;
+pub use applying::{apply, apply_until_refused};
 pub use bad_request::BadRequest;
 pub use entering::enter;
 pub use faults::refusal_of;

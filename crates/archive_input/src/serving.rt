@@ -26,11 +26,12 @@ use std::io::Write;
 use store::Archive;
 
 /// Serves the row of this number: performs its request, writes its answer and flushes it, and tells on the faults why
-/// it is refused, where it is. `apply` calls it for one row after the other, so the answer of a row is with the writer
-/// before the next is decided. `before` is the writer's count of failures at the start of the call that asks.
+/// it is refused, where it is; that is also handed back. `apply` calls it for one row after the other, so the answer of
+/// a row is with the writer before the next is decided. `before` is the writer's count of failures at the start of the
+/// call that asks.
 ///
 /// 80: the database failed, and nothing is written. 95: the writer failed. 1: no memory was found to read the row, or
-/// to form or write its answer. At these nothing is told on the faults. What they do with what they are given decides
+/// to form or write its answer. At these nothing is said on the faults. What they do with what they are given decides
 /// nothing.
 pub fn serve_row<S: Alter, W: Write + Device, F: Write + Device>(
     alloc: Global,
@@ -40,11 +41,12 @@ pub fn serve_row<S: Alter, W: Write + Device, F: Write + Device>(
     output: &mut W,
     faults: &mut F,
     before: u64,
-) -> Result<(), RefusalKind>
-    ensures served { OnOk result ((s : Served) × IsServed (fields_of row.now) s
+) -> Result<Option<RefusalKind>, RefusalKind>
+    ensures served { IfOk result (λ refused. (s : Served) × IsServed (fields_of row.now) s
         × Serves S.Store W.contents F.contents number s
         (record { archive = archive.old; output = output.old; faults = faults.old })
-        (record { archive = archive.new; output = output.new; faults = faults.new })) }
+        (record { archive = archive.new; output = output.new; faults = faults.new })
+        × (refused ≡ refusal_of s)) }
     ensures ended { IfErr result
         (λ kind. ((kind ≡ refusal.OutOfMemory) × (archive.new ≡ archive.old)
         × (W.contents output.new ≡ W.contents output.old))
@@ -55,10 +57,10 @@ pub fn serve_row<S: Alter, W: Write + Device, F: Write + Device>(
     ensures untold { OnErr result (faults.new ≡ faults.old) }
 {
     match answer_row(alloc, archive, row, output, before) {
-        Ok(None) => Ok(()),
+        Ok(None) => Ok(None),
         Ok(Some(kind)) => {
             tell_fault(alloc, number, kind, row, faults);
-            Ok(())
+            Ok(Some(kind))
         }
         Err(kind) => Err(kind),
     }

@@ -1,4 +1,4 @@
-//! What is wrong with a row, told beside its answer.
+//! What is wrong with a row, reported beside its answer.
 
 ghost use Rattle.std.specs.Prelude.{Some};
 ghost use Rattle.archive_input.specs.RowByRow.{IsTold};
@@ -10,7 +10,7 @@ use request_csv::fault_line;
 use std::alloc::Global;
 use std::io::Write;
 
-/// Tells why the row of this number was refused. Where memory is refused, or the writer fails, less is told: nothing
+/// Reports why the row of this number was refused. Where memory is refused, or the writer fails, less is said: nothing
 /// else depends on it.
 pub(crate) fn tell_fault<F: Write + Device>(
     alloc: Global,

@@ -1,2 +1,3 @@
+pub mod Checks
 pub mod Ends
 pub mod Texts

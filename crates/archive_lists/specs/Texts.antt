@@ -1,4 +1,4 @@
--- The lines of a page of records, and records shown whole, as texts: rules of our own.
+-- The lines of a page of records or slips, what is doubtful, and records shown whole, as texts: rules of our own.
 use Rattle.std.specs.Prelude.{
   ℕ,
   List,
@@ -18,9 +18,13 @@ use Rattle.std.specs.Prelude.{
 use Rattle.std.specs.List.{flat_map}
 use Rattle.std.specs.FinMap.{entries}
 use Rattle.archive_state.specs.Content.{Content}
+use Rattle.doubts.specs.Doubts.{review}
 use Rattle.searching.specs.Lines.{page, page_and_others}
 use Rattle.searching.specs.declared.wanted.Listing.{Listing}
 use Rattle.showing.specs.Shown.{shown_at}
+use Rattle.showing.specs.SlipLists.{slip_page}
+use Rattle.archive_lists.specs.declared.listed.Listed.{Listed}
+use Rattle.archive_lists.specs.declared.listed.Listed.TheVariants as listed
 
 -- a line with its end
 abbrev pub ended : ℕ × List ℕ → List ℕ
@@ -35,10 +39,16 @@ abbrev pub counted_text : List (ℕ × List ℕ) × List ℕ → List ℕ
 counted_text found = flat_map ended found.0 ++ more_text (length found.1)
 
 -- the lines of the first so many records after a number that are wanted; where it is asked for, how many more there are
-abbrev pub list_text : Listing → Content → List ℕ
-list_text l c =
+abbrev pub records_text : Listing → Content → List ℕ
+records_text l c =
     if l.counts_others then counted_text (page_and_others l.wanted l.after l.limit (entries c.records))
     else flat_map ended (page l.wanted l.after l.limit (entries c.records))
+
+-- the lines of what is listed
+abbrev pub list_text : Listed → Content → List ℕ
+list_text (listed.Records l) c = records_text l c
+list_text (listed.Slips after limit) c = flat_map ended (slip_page after limit c)
+list_text listed.Doubts c = flat_map ended (review c)
 
 -- a text below what stands there, with a blank line between
 abbrev pub below : List ℕ → List ℕ → List ℕ

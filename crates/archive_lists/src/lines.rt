@@ -1,34 +1,89 @@
-//! The lines of records, as a text.
+//! The lines of records, slips and doubts, as a text.
 
 ghost use Rattle.std.specs.Prelude.{◌≡◌, ◌++◌, IfOk, OnOk, Some, option_map, string_bytes};
 ghost use Rattle.std.specs.FinMap.{entries};
 ghost use Rattle.std.specs.List.{flat_map};
 ghost use Rattle.archive_state.specs.Looks.{CountsFailures, Looked};
 ghost use Rattle.archive_state.specs.Views.{On};
+ghost use Rattle.doubts.specs.Doubts as doubts;
 ghost use Rattle.searching.specs.Lines as lines;
+ghost use Rattle.showing.specs.SlipLists as slip_lists;
 ghost use Rattle.archive_lists.specs.Texts as texts;
 
+use crate::listed::Listed;
 use archive_state::View;
+use doubts::review_archive;
 use record_text::RefusalKind;
 use searching::{Found, Line, Listing, page, page_and_others};
+use showing::slip_page;
 use std::alloc::{AllocError, Global};
 
-/// The lines of a listing, by number, and how many more there are where that is asked for. There always is a text.
+/// The lines of what is listed, by number. There always is a text.
 pub(crate) fn list_text<V: View>(
     alloc: Global,
     view: &mut V,
-    listing: &Listing,
+    listed: &Listed,
 ) -> Result<Option<String>, RefusalKind>
     ensures shows { On V.View view.old view.new (λ c. Looked result
-        (λ text. option_map string_bytes text ≡ Some (texts.list_text listing.now c))) }
+        (λ text. option_map string_bytes text ≡ Some (texts.list_text listed.now c))) }
     ensures counts { CountsFailures (V.failed view.old) (V.failed view.new) result }
 {
-    let text = if listing.counts_others {
-        counted_text(alloc, view, listing)?
-    } else {
-        page_text(alloc, view, listing)?
-    };
+    let text = listed_text(alloc, view, listed)?;
     Ok(Some(text))
+}
+
+fn listed_text<V: View>(alloc: Global, view: &mut V, listed: &Listed) -> Result<String, RefusalKind>
+    ensures shows { On V.View view.old view.new (λ c. Looked result
+        (λ text. string_bytes text ≡ texts.list_text listed.now c)) }
+    ensures counts { CountsFailures (V.failed view.old) (V.failed view.new) result }
+{
+    match listed {
+        Listed::Records { listing } => records_text(alloc, view, listing),
+        Listed::Slips { after, limit } => slips_text(alloc, view, *after, *limit),
+        Listed::Doubts => doubts_text(alloc, view),
+    }
+}
+
+/// The lines of slips.
+fn slips_text<V: View>(
+    alloc: Global,
+    view: &mut V,
+    after: u32,
+    limit: usize,
+) -> Result<String, RefusalKind>
+    ensures shows { On V.View view.old view.new (λ c. Looked result
+        (λ text. string_bytes text ≡ flat_map texts.ended (slip_lists.slip_page after limit c))) }
+    ensures counts { CountsFailures (V.failed view.old) (V.failed view.new) result }
+{
+    let lines = slip_page(alloc, view, after, limit)?;
+    Ok(text_of(alloc, &lines)?)
+}
+
+/// The lines of what is doubtful.
+fn doubts_text<V: View>(alloc: Global, view: &mut V) -> Result<String, RefusalKind>
+    ensures shows { On V.View view.old view.new (λ c. Looked result
+        (λ text. string_bytes text ≡ flat_map texts.ended (doubts.review c))) }
+    ensures counts { CountsFailures (V.failed view.old) (V.failed view.new) result }
+{
+    let lines = review_archive(alloc, view)?;
+    Ok(text_of(alloc, &lines)?)
+}
+
+/// The lines of records, and how many more there are where that is asked for.
+fn records_text<V: View>(
+    alloc: Global,
+    view: &mut V,
+    listing: &Listing,
+) -> Result<String, RefusalKind>
+    ensures shows { On V.View view.old view.new (λ c. Looked result
+        (λ text. string_bytes text ≡ texts.records_text listing.now c)) }
+    ensures counts { CountsFailures (V.failed view.old) (V.failed view.new) result }
+{
+    if listing.counts_others {
+        counted_text(alloc, view, listing)
+    } else {
+        page_text(alloc, view, listing)
+    }
 }
 
 /// The lines, whatever is left out.

@@ -12,19 +12,19 @@ ghost use Rattle.archive_lists.specs.Ends.{EndsWriting, OnRead};
 ghost use Rattle.archive_lists.specs.Texts as texts;
 
 use crate::lines::list_text;
+use crate::listed::Listed;
 use crate::whole::shown_text;
 use archive_output::write_text;
 use devices::Device;
 use record_text::RefusalKind;
-use searching::Listing;
 use sqlite::Alter;
 use std::alloc::Global;
 use std::io::Write;
 use store::Archive;
 use store::laws::looks_are_a_call;
 
-/// Writes the lines of a listing, by number, and how many more there are where that is asked for. The archive is not
-/// changed; an import that is open stays open, and nothing of it is written.
+/// Writes the lines of what is listed, by number, and of records how many more there are where that is asked for. The
+/// archive is not changed; an import that is open stays open, and nothing of it is written.
 ///
 /// 80: the database failed, and the archive has to be opened again. 40: somebody else has spoilt what is stored. At
 /// these nothing is written. 95: the output failed. 1: memory was refused. At these a beginning of the text may have
@@ -32,13 +32,13 @@ use store::laws::looks_are_a_call;
 pub fn write_list<S: Alter, W: Write + Device>(
     alloc: Global,
     archive: &mut Archive<S>,
-    listing: &Listing,
+    listed: &Listed,
     writer: &mut W,
 ) -> Result<(), RefusalKind>
     requires kept { archive.old.is_lost ≡ false }
     ensures ended { OnRead (state S.Store archive.old.conn) (state S.Store archive.new.conn)
         (λ c. EndsWriting result (W.contents writer.old) (W.contents writer.new)
-        (Some (texts.list_text listing.now c))) }
+        (Some (texts.list_text listed.now c))) }
     ensures unread { IfErr result
         (λ kind. is_failure kind ≡ true → Keeps (W.contents writer.old) (W.contents writer.new)) }
     ensures writer { IfErr result (λ kind. kind ≡ WriteFailed → Rose (W.failed writer.old) (W.failed writer.new)) }
@@ -47,7 +47,7 @@ pub fn write_list<S: Alter, W: Write + Device>(
 {
     looks_are_a_call::<S>();
     let import = archive.set_aside();
-    let text = list_text(alloc, archive, listing);
+    let text = list_text(alloc, archive, listed);
     archive.put_back(import);
     write_found(archive.is_lost(), text, writer)
 }

@@ -10,6 +10,8 @@ use Rattle.std.proofs.Common.{
   true,
   false,
   List,
+  Ok,
+  Err,
   length,
   refl,
   sym,
@@ -17,7 +19,7 @@ use Rattle.std.proofs.Common.{
   subst,
   true≢false,
 }
-use Rattle.std.specs.Prelude.{◌≢◌, Option}
+use Rattle.std.specs.Prelude.{◌≢◌, Option, Result, IfErr, OnOk}
 use Rattle.sqlite.specs.State.{HasCleanDisk, State}
 use Rattle.archive_state.specs.Content.{Content}
 use Rattle.archive_state.specs.Sound.{IsSound}
@@ -29,11 +31,13 @@ use Rattle.record_text.specs.declared.refusal.RefusalKind.TheVariants.{BadStored
 use Rattle.store_tables.specs.Calls.{LeavesOnly, Settled}
 use Rattle.store_tables.specs.Looking.{IsFailure}
 use Rattle.store_tables.specs.Rows.{Rows}
+use Rattle.store.specs.Calls.{Reads}
 use Rattle.store.specs.Looking.{StaysReadable}
 use Rattle.store.specs.Viewing.{AreSeen, Kept, Shows}
 use Rattle.store.proofs.Viewed.{kept_of, seen_of}
 use Rattle.archive_output.specs.Exporting.{IsPart, export_text}
 use Rattle.archive_output.specs.Reading.{OnOpen}
+use Rattle.archive_output.proofs.Asked.{follows}
 use Rattle.devices.proofs.Begun.{begins_none}
 
 -- ---- what was written
@@ -42,7 +46,7 @@ failure_is_reason : (size : ℕ) (kind : RefusalKind) → IsFailure kind → IsR
 failure_is_reason size kind (inl want) = inl (ap is_stop want)
 failure_is_reason size kind (inr lost) = inl (ap is_stop lost)
 
--- whether the stored lines are told to be spoilt
+-- whether the stored lines are known to be spoilt
 abbrev is_bad : RefusalKind → Bool
 is_bad BadStored = true
 is_bad _ = false
@@ -104,7 +108,7 @@ not_true : (b : Bool) → (b ≡ true → ⊥) → b ≡ false
 not_true true none = absurd (none refl)
 not_true false none = refl
 
--- why an export was stopped, where a lost archive is told as 80: of an archive that is not lost no look has failed
+-- why an export was stopped, where a lost archive is reported as 80: of an archive that is not lost no look has failed
 pub stopped : (lost : Bool) (failures failures_now : ℕ) (before after : Option (List ℕ)) (bytes : List ℕ)
     (kind told : RefusalKind) → (lost ≡ true → told ≡ Storage) → (lost ≡ false → is_failure kind ≡ false → told ≡ kind)
     → failures ≡ 0 → (lost ≡ false → failures_now ≡ 0)
@@ -138,3 +142,48 @@ stays_viewed P old new lost lost_now failures failures_now none leaves viewed cl
           (at.1 (kept_of rows c seen) (shown rows c was seen)).0.crash;
       clean = at.0;
     }
+
+-- ---- of what was read whole
+-- the same under a name
+pub nothing_of : (old new : State) (kind : RefusalKind) (before : Option (List ℕ)) (text : Content → List ℕ)
+    → OnOpen old new (λ _ _. IsFailure kind) → OnOpen old new (λ _ c. IsPart kind before before (text c))
+nothing_of old new kind before text fails = follows old new (λ _ _. IsFailure kind)
+    (λ _ c. IsPart kind before before (text c)) (λ _ c is. (
+      record {
+        reason = failure_is_reason (length (text c)) kind is;
+        written = begins_none before (text c);
+      },
+      failure_is_not_bad kind is,
+    )) fails
+
+-- ---- of what was read
+-- a beginning, where the archive was read before
+pub own_part : {before after : Option (List ℕ)} {bytes : List ℕ} (kind : RefusalKind) → is_failure kind ≡ false
+    → IsBegun before after bytes kind → IsPart kind before after bytes
+own_part kind own begun = (begun, λ bad. absurd (true≢false (sym (ap is_failure bad) ∙ own)))
+
+-- no refusal of one's own is 80
+pub never_lost : {A : Type 0} (r : Result A RefusalKind) (P : Type 0) → IfErr r (λ kind. is_failure kind ≡ false)
+    → IfErr r (λ kind. kind ≡ Storage → P)
+never_lost (Ok a) P own = tt
+never_lost (Err kind) P own = λ is. absurd (true≢false (sym (ap is_failure is) ∙ own))
+
+-- ---- of tables that are not read whole, which an archive's always are
+module _ {A : Type 0} (Is : List ℕ → Content → A → Type 0) (old mid new : State) (kind : RefusalKind)
+    (bad : kind ≡ BadStored) (reads : HasCleanDisk mid → Reads Is old (Err kind) mid) where
+  not_bad : (P Q : List ℕ → Content → Type 0) → OnOpen mid new P → OnOpen old new Q
+  not_bad P Q more clean =
+      let r = reads (more clean).0 in (
+        r.stays.clean,
+        λ society c has. absurd (failure_is_not_bad kind (r.refused society c has) bad),
+      )
+
+  pub whole_by_looks : {C : Type 0} (r : Result C RefusalKind) (P Q : List ℕ → Content → Type 0)
+      → OnOk r (OnOpen mid new P) → OnOk r (OnOpen old new Q)
+  whole_by_looks (Ok a) P Q did = not_bad P Q did
+  whole_by_looks (Err e) P Q did = tt
+
+  pub part_by_looks : {C : Type 0} (r : Result C RefusalKind) (P Q : RefusalKind → List ℕ → Content → Type 0)
+      → IfErr r (λ e. OnOpen mid new (P e)) → IfErr r (λ e. OnOpen old new (Q e))
+  part_by_looks (Ok a) P Q did = tt
+  part_by_looks (Err e) P Q did = not_bad (P e) (Q e) did

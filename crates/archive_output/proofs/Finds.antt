@@ -85,7 +85,7 @@ module _ {A : Type 0} (bytes : A → List ℕ) (old mid : State) (first last : �
       (then_read old mid new (λ _ c. AreAll (IsBetween c.records first last) given) (λ _ _. IsFailure kind) handed_on
       did)
 
--- ---- what is told of them
+-- ---- what is said of them
 module _ (old new : State) (held : Content)
     (reads : HasCleanDisk new → Reads (λ _ c found. found ≡ c) old (Ok held) new) where
   pub read : OnOpen old new (λ society c. (held ≡ c) × HasArchive society c new)

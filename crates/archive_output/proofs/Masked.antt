@@ -28,6 +28,23 @@ module _ (old new : State) (held : Content)
       (shows (subst IsSound (sym is) sound)))) reads
   shown_as given today day (Err kind) shows = tt
 
+  -- what was written of it, whole or in part
+  pub each_of_held : {A : Type 0} (r : Result A RefusalKind) (P : A → Content → Type 0) → IfOk r (λ a. P a held)
+      → IfOk r (λ a. OnOpen old new (λ _ c. P a c))
+  each_of_held (Ok a) P did = follows old new (λ society c. (held ≡ c) × HasArchive society c new) (λ _ c. P a c)
+      (λ _ c is. subst (P a) is.0 did) read
+  each_of_held (Err kind) P did = tt
+
+  pub all_of_held : {A : Type 0} (r : Result A RefusalKind) (P : Content → Type 0) → OnOk r (P held)
+      → OnOk r (OnOpen old new (λ _ c. P c))
+  all_of_held r P did = each_of_held r (λ _. P) did
+
+  pub part_of_held : {A : Type 0} (r : Result A RefusalKind) (P : RefusalKind → Content → Type 0)
+      → IfErr r (λ kind. P kind held) → IfErr r (λ kind. OnOpen old new (λ _ c. P kind c))
+  part_of_held (Ok a) P did = tt
+  part_of_held (Err kind) P did = follows old new (λ society c. (held ≡ c) × HasArchive society c new)
+      (λ _ c. P kind c) (λ _ c is. subst (P kind) is.0 did) read
+
 -- the same of what was made of it
 pub same_of : (r : Result Content RefusalKind) (s : Content) (P : Content → Type 0) → IfOk r (λ l. l ≡ s) → P s
     → IfOk r P
@@ -48,11 +65,15 @@ of_either c today s P is (inr p) = inr (s, is, p)
 
 module _ {A : Type 0} (old new : State) (today : ℤ) (s : Content)
     (shown : OnOpen old new (λ society c. IsShown c today s × HasArchive society c new)) where
+  pub each_of_shown : (r : Result A RefusalKind) (P : A → Content → Type 0) → (IsSound s → IfOk r (λ a. P a s))
+      → IfOk r (λ a. OnOpen old new (λ _ c. OnShown c today (P a)))
+  each_of_shown (Ok a) P did = follows old new (λ society c. IsShown c today s × HasArchive society c new)
+      (λ _ c. OnShown c today (P a)) (λ _ _ is. (s, is.0, did is.0.sound)) shown
+  each_of_shown (Err kind) P did = tt
+
   pub all_of_shown : (r : Result A RefusalKind) (P : Content → Type 0) → (IsSound s → OnOk r (P s))
       → OnOk r (OnOpen old new (λ _ c. OnShown c today P))
-  all_of_shown (Ok a) P did = follows old new (λ society c. IsShown c today s × HasArchive society c new)
-      (λ _ c. OnShown c today P) (λ _ _ is. (s, is.0, did is.0.sound)) shown
-  all_of_shown (Err kind) P did = tt
+  all_of_shown r P did = each_of_shown r (λ _. P) did
 
   pub none_of_shown : (r : Result A RefusalKind) (N : RefusalKind → Type 0) (P : RefusalKind → Content → Type 0)
       → (IsSound s → IfErr r (λ kind. N kind ⊎ P kind s))

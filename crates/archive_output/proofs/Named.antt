@@ -1,6 +1,6 @@
 -- What is said of an archive of which the society was read first.
 use Rattle.std.proofs.Common.{◌≡◌, ◌∙◌, ℕ, true, List, Ok, Err, sym, ap, subst, true≢false}
-use Rattle.std.specs.Prelude.{Result, IfErr, OnOk}
+use Rattle.std.specs.Prelude.{Result, IfErr, IfOk, OnOk}
 use Rattle.sqlite.specs.State.{State}
 use Rattle.archive_state.specs.Content.{Content}
 use Rattle.archive_state.specs.Looks.{is_stop}
@@ -23,13 +23,20 @@ of_named old mid new text P first more clean =
     )
 
 -- of a result, and of the society as it is handed on
+pub each_of_named : {A : Type 0} (r : Result A RefusalKind) (old mid new : State) (text given : List ℕ)
+    (P : A → List ℕ → Content → Type 0) → given ≡ text
+    → OnOpen old mid (λ society c. (text ≡ society) × HasArchive society c mid)
+    → IfOk r (λ a. OnOpen mid new (λ _ c. P a given c)) → IfOk r (λ a. OnOpen old new (P a))
+each_of_named (Ok a) old mid new text given P same first did =
+    of_named old mid new text (P a) first (subst (λ (x : List ℕ). OnOpen mid new (λ _ c. P a x c)) same did)
+each_of_named (Err kind) old mid new text given P same first did = tt
+
 pub whole_of_named : {A : Type 0} (r : Result A RefusalKind) (old mid new : State) (text given : List ℕ)
     (P : List ℕ → Content → Type 0) → given ≡ text
     → OnOpen old mid (λ society c. (text ≡ society) × HasArchive society c mid)
     → OnOk r (OnOpen mid new (λ _ c. P given c)) → OnOk r (OnOpen old new P)
-whole_of_named (Ok a) old mid new text given P same first did =
-    of_named old mid new text P first (subst (λ (x : List ℕ). OnOpen mid new (λ _ c. P x c)) same did)
-whole_of_named (Err kind) old mid new text given P same first did = tt
+whole_of_named r old mid new text given P same first did =
+    each_of_named r old mid new text given (λ _. P) same first did
 
 pub part_of_named : {A : Type 0} (r : Result A RefusalKind) (old mid new : State) (text given : List ℕ)
     (P : RefusalKind → List ℕ → Content → Type 0) → given ≡ text

@@ -15,7 +15,7 @@ use Rattle.archive_output.proofs.Asked.{follows}
 use Rattle.store.specs.Calls.{Stays}
 use Rattle.archive_output.specs.Showing.{IsOfTables, IsShown, OfSound, OnShown}
 
--- want of memory, or 40 of a state that is not sound
+-- out of memory, or 40 of a state that is not sound
 abbrev pub IsUnsound : Content → RefusalKind → Type 0
 IsUnsound held kind = (kind ≡ OutOfMemory) ⊎ ((kind ≡ BadStored) × ¬ (IsSound held))
 
@@ -71,22 +71,34 @@ pub day_sound : (old new : State) (given today : ℤ) (s : Content) → given �
     → OfSound old new (λ c. IsShown c given s) → OfSound old new (λ c. IsShown c today s)
 day_sound old new given today s day is = subst (λ (t : ℤ). OfSound old new (λ c. IsShown c t s)) day is
 
+pub each_of_sound : {A : Type 0} (old new : State) (today : ℤ) (s : Content)
+    → OfSound old new (λ c. IsShown c today s) → (r : Result A RefusalKind) (P : A → Content → Type 0)
+    → (IsSound s → IfOk r (λ a. P a s)) → IfOk r (λ a. OfSound old new (λ c. OnShown c today (P a)))
+each_of_sound old new today s shown (Ok a) P did =
+    (shown.0, shown.1, shown.2, (s, shown.3, did shown.3.sound))
+each_of_sound old new today s shown (Err kind) P did = tt
+
 pub all_of_sound : {A : Type 0} (old new : State) (today : ℤ) (s : Content)
     → OfSound old new (λ c. IsShown c today s) → (r : Result A RefusalKind) (P : Content → Type 0)
     → (IsSound s → OnOk r (P s)) → OnOk r (OfSound old new (λ c. OnShown c today P))
-all_of_sound old new today s shown (Ok a) P did =
-    (shown.0, shown.1, shown.2, (s, shown.3, did shown.3.sound))
-all_of_sound old new today s shown (Err kind) P did = tt
+all_of_sound old new today s shown r P did = each_of_sound old new today s shown r (λ _. P) did
 
 -- under a name that was read first, which left the tables as they were
-pub all_under : {A : Type 0} (old mid new : State) (failed : Bool) → failed ≡ false
+pub each_under : {A : Type 0} (old mid new : State) (failed : Bool) → failed ≡ false
     → (HasCleanDisk new → HasCleanDisk mid) → (HasCleanDisk mid → Stays old failed mid) → (r : Result A RefusalKind)
-    (society : List ℕ) (P : List ℕ → Content → Type 0) → OnOk r (OfSound mid new (P society))
-    → OnOk r (OfSound old new (λ c. (name : List ℕ) × P name c))
-all_under old mid new failed sure before stays (Ok a) society P is = (
+    (society : List ℕ) (P : A → List ℕ → Content → Type 0) → IfOk r (λ a. OfSound mid new (P a society))
+    → IfOk r (λ a. OfSound old new (λ c. (name : List ℕ) × P a name c))
+each_under old mid new failed sure before stays (Ok a) society P is = (
   is.0,
   is.1,
   λ clean rows settled. is.2 clean rows ((stays (before clean)).same sure rows settled),
   (society, is.3),
 )
-all_under old mid new failed sure before stays (Err kind) society P is = tt
+each_under old mid new failed sure before stays (Err kind) society P is = tt
+
+pub all_under : {A : Type 0} (old mid new : State) (failed : Bool) → failed ≡ false
+    → (HasCleanDisk new → HasCleanDisk mid) → (HasCleanDisk mid → Stays old failed mid) → (r : Result A RefusalKind)
+    (society : List ℕ) (P : List ℕ → Content → Type 0) → OnOk r (OfSound mid new (P society))
+    → OnOk r (OfSound old new (λ c. (name : List ℕ) × P name c))
+all_under old mid new failed sure before stays r society P is =
+    each_under old mid new failed sure before stays r society (λ _. P) is

@@ -1,4 +1,5 @@
 pub mod Exporting
+pub mod Plain
 pub mod Reading
 pub mod Sheets
 pub mod Showing

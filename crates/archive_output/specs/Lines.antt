@@ -29,13 +29,13 @@ behind (Some text) = codes "  " ++ printed text
 abbrev pub parts : Records → List ℕ → Option Date → Option ℕ → List ℕ
 parts m word date place = codes "  " ++ (word ++ (dated (codes "  ") date ++ behind (path_at m place)))
 
--- an event is told by its tag, a register entry by the word of its kind; other records are never found
+-- an event is named by its tag, a register entry by the word of its kind; other records are never found
 abbrev pub told : Records → Option Record → List ℕ
 told m (Some (kind.Event e)) = parts m e.tag e.date (place_number e.place)
 told m (Some (kind.Entry e)) = parts m (entry_kind_word e.kind) e.date e.place
 told m _ = []
 
--- the number alone, or what is told of its record after it
+-- only the number, or what is said of its record after it
 abbrev pub number_line : ℕ → List ℕ
 number_line n = line (decimal n)
 

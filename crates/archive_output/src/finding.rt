@@ -18,7 +18,7 @@ use sqlite::Alter;
 use std::alloc::Global;
 use store::Archive;
 
-/// What is between two days, counted from 1970-01-01, as a text: numbers alone, or with words what is told of each. The
+/// What is between two days, counted from 1970-01-01, as a text: only numbers, or with words what is said of each. The
 /// archive is not changed; an import that is open stays open. 1: memory was refused. 40: somebody else has spoilt what
 /// is stored. 80: the database failed, and the archive has to be opened again.
 pub(crate) fn text_of<S: Alter>(
@@ -44,7 +44,7 @@ pub(crate) fn text_of<S: Alter>(
     }
 }
 
-/// The numbers alone.
+/// Only the numbers.
 fn numbers_of<S: Alter>(
     alloc: Global,
     archive: &mut Archive<S>,
@@ -66,7 +66,7 @@ fn numbers_of<S: Alter>(
     }
 }
 
-/// The numbers, and what is told of each.
+/// The numbers, and what is said of each.
 fn told_of<S: Alter>(
     alloc: Global,
     archive: &mut Archive<S>,
@@ -111,7 +111,7 @@ fn found_in<S: Alter>(
     }
 }
 
-/// What is told of these numbers. The archive is read whole.
+/// What is said of these numbers. The archive is read whole.
 fn told_by<S: Alter>(
     alloc: Global,
     archive: &mut Archive<S>,

@@ -2,6 +2,8 @@
 //!
 //! - `exporting`, `reading`, `texts`: an archive that is open, wherever its tables are, written as a GEDCOM file.
 //! - `laws`, `public_writing`: public exports: what is shown of an archive, written as a GEDCOM file.
+//! - `plain_publishing`, `plain_writing`: the plain archive of an archive that is open, whole or of what is shown,
+//!   written as a GEDCOM file that other programs take.
 //! - `publishing`, `sheet`, `showing`, `shown_writing`: what is shown of an archive that is open, wherever its tables
 //!   are: its sheets, its public export, and what a reading room has of it.
 //! - `day_writing`, `finding`, `lines`, `paths`: the events and register entries of an archive that is open between two
@@ -22,6 +24,8 @@ mod finding;
 pub mod laws;
 mod lines;
 mod paths;
+mod plain_publishing;
+mod plain_writing;
 mod public_writing;
 mod publishing;
 mod reading;
@@ -32,6 +36,8 @@ mod texts;
 
 pub use day_writing::write_days;
 pub use exporting::write_archive;
+pub use plain_publishing::write_public_plain;
+pub use plain_writing::write_plain;
 pub use publishing::write_public;
 pub use sheet::{Sheet, sheet_of};
 pub use showing::{library_of, shown_of};

@@ -14,7 +14,7 @@ use record_text::RefusalKind;
 use sheet_lines::push_dated;
 use std::alloc::{AllocError, Global};
 
-/// Numbers, one a line. Refused only for want of memory.
+/// Numbers, one a line. Refused only if out of memory.
 pub(crate) fn numbers_text(alloc: Global, found: &[u32]) -> Result<String, RefusalKind>
     ensures text { IfOk result (λ s. string_bytes s ≡ flat_map lines.number_line found.now) }
     ensures refused { IfErr result (λ kind. kind ≡ OutOfMemory) }
@@ -39,7 +39,7 @@ fn push_number(out: &mut String, number: u32) -> Result<(), AllocError>
     write!(out, "{number}\n")
 }
 
-/// Numbers with what is told of their records, one a line. Refused only for want of memory.
+/// Numbers with what is said of their records, one a line. Refused only if out of memory.
 pub(crate) fn told_text(alloc: Global, state: &State, found: &[u32]) -> Result<String, RefusalKind>
     ensures refused { IfErr result (λ kind. kind ≡ OutOfMemory) }
     ensures text { IfOk result (λ s. string_bytes s ≡ flat_map (lines.told_line state.now.records) found.now) }

@@ -60,7 +60,7 @@ fn masked_if_sound(alloc: Global, state: &State, today: i32) -> Result<Shown, Re
     }
 }
 
-/// What may be shown of a state. Refused only for want of memory.
+/// What may be shown of a state. Refused only if out of memory.
 fn masked(alloc: Global, state: &State, today: i32) -> Result<Shown, RefusalKind>
     ensures shown { IsSound state.now → IfOk result (λ s. IsShown state.now today s) }
     ensures refused { IfErr result (λ kind. kind ≡ OutOfMemory) }
@@ -94,7 +94,7 @@ pub fn library_of<S: Alter>(
     }
 }
 
-/// What is shown, with its index. Refused only for want of memory.
+/// What is shown, with its index. Refused only if out of memory.
 fn shelved(alloc: Global, shown: Shown) -> Result<Library, RefusalKind>
     ensures same { IfOk result (λ l. l ≡ shown) }
     ensures refused { IfErr result (λ kind. kind ≡ OutOfMemory) }

@@ -11,7 +11,7 @@ use Rattle.archive_files.specs.declared.left.Left.TheVariants.{Untouched, Unopen
 use Rattle.archive_runs.specs.Leaving.{FindsOpen, IsAsTold}
 
 module _ {D S : Type 0} {g : disk.Ghosts D} where
-  -- what is told of what is left is told of it after the close
+  -- what holds of what is left holds of it after the close
   pub told_closed : (before : Image) (left : Left S D g) (end : Closed S D g) → IsClosing left end
       → IsAsTold before end → IsToldOf before left
   told_closed before (Untouched start) end same told = tt

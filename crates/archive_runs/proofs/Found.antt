@@ -19,6 +19,7 @@ use Rattle.archive_output.specs.Exporting.{export_text}
 use Rattle.archive_output.specs.Reading.{OnOpen}
 use Rattle.archive_lists.specs.Texts.{list_text, shown_text}
 use Rattle.archive_state.specs.Content.{Content}
+use Rattle.page_entries.specs.declared.dates.DateOrder.{DateOrder}
 use Rattle.request_csv.specs.Batches.{ReadsBatch}
 use Rattle.request_csv.specs.Input.{AreFirstRows, AreRows, row_bytes}
 use Rattle.commands.specs.declared.entry_row.EntryRow.{EntryRow}
@@ -35,6 +36,7 @@ use Rattle.receipts.specs.declared.report.ReportLine.{ReportLine}
 use Rattle.record_text.specs.Text.{IsText}
 use Rattle.record_text.specs.declared.refusal.Refusal.{Refusal}
 use Rattle.record_text.specs.declared.refusal.RefusalKind.{RefusalKind}
+use Rattle.record_text.specs.declared.refusal.Unit.TheVariants as unit
 use Rattle.archive_output.specs.declared.sheet.Sheet.{Sheet}
 use Rattle.store.specs.Archives.{IsArchive}
 use Rattle.store.specs.Earlier.{HoldsArchive}
@@ -46,6 +48,7 @@ use Rattle.store.proofs.Viewed.{seen_of}
 use Rattle.archive_input.specs.Answers.{Served}
 use Rattle.archive_input.specs.Applying.{
   Applied,
+  AppliedOf,
   Ended as EndedEarly,
   Ends as EndsEarly,
   PerformsAll,
@@ -54,27 +57,35 @@ use Rattle.archive_input.specs.Applying.{
   calls_of,
 }
 use Rattle.archive_input.specs.Entering.{Enters, batch_request}
+use Rattle.archive_input.specs.Stopping.{AreAccepted, IsUpToRefusal}
+use Rattle.archive_input.proofs.Refusals.{accepted_up_to, refused_up_to}
 use Rattle.tasks.specs.Ends.{
   Applies,
+  AppliesUntilRefused,
   Audits,
+  ChecksTable,
   Does,
   EntersBatch,
   Exports,
+  ExportsPlain,
   ImportsFile,
   IsAudit,
   ListsDays,
   PrintsSheet,
   PrintsText,
   Publishes,
+  PublishesPlain,
 }
 use Rattle.tasks.specs.Moments.{Moment, Streams, at}
 use Rattle.tasks.specs.Parts.{Shelves}
-use Rattle.tasks.specs.Status.{Finishes, Outcome, Plain, as_text}
+use Rattle.tasks.specs.Status.{Finishes, Outcome, Plain, as_text, placeless_text}
+use Rattle.tasks.specs.Stopping.{Concludes, Stopping, as_stopped}
 use Rattle.tasks.specs.Texts.{made_text}
+use Rattle.tasks.proofs.Quiet.{refused_with_1}
 use Rattle.tasks.specs.declared.task.Task.{Task}
 use Rattle.tasks.specs.declared.task.Task.TheVariants as task
 use Rattle.archive_runs.specs.Reading.{ReadsBack}
-use Rattle.archive_runs.specs.Runs.{Acts, KeepsNone, KeepsOne, Run, Tells}
+use Rattle.archive_runs.specs.Runs.{Acts, KeepsNone, KeepsOne, KeepsRows, Run, Tells}
 use Rattle.archive_runs.specs.Seeing.{IsSeen, IsSeenAs}
 use Rattle.archive_runs.proofs.Counted.{IsKept, Ran, accepted, refused}
 use Rattle.archive_runs.proofs.Seen.{HasDone, kept_still, never, run_of, told, told_none, told_part}
@@ -131,10 +142,14 @@ module _ {R W F : Type 0} (reader : read.Ghosts R) (reads : device.Ghosts R) (wr
   -- nothing was done
   pub acts_none : (t : Task) (c : Content) → seen ≡ [] → ¬ (HasDone ended) → Acts c (Some t) (run t) []
   acts_none task.Apply c none never = inl (refl, none, never)
+  acts_none task.ApplyUntilRefused c none never = inl (refl, none, never)
   acts_none (task.Entries token source) c none never = inl (refl, none, never)
+  acts_none (task.CheckTable source order) c none never = refl
   acts_none (task.Import token progress) c none never = inl (refl, none, never)
   acts_none task.Export c none never = (refl, λ done. absurd (never done))
   acts_none (task.ExportPublic today) c none never = refl
+  acts_none task.ExportPlain c none never = refl
+  acts_none (task.ExportPublicPlain today) c none never = refl
   acts_none (task.Sheet sheet today) c none never = refl
   acts_none (task.Library today) c none never = refl
   acts_none task.Audit c none never = refl
@@ -191,47 +206,80 @@ module _ {R W F : Type 0} (reader : read.Ghosts R) (reads : device.Ghosts R) (wr
         (all.0, subst (λ (k : Content). IsArchive society k left) found.1 found.2)
 
     -- ---- rows of requests
-    told_early : (kind : RefusalKind) (served : List Served) → EndsEarly kind served Got Has → ¬ (HasDone ended)
-        → Tells (run task.Apply) (answers served)
-    told_early kind served (inl storage) never = tells task.Apply (answers served) storage.2
-    told_early kind served (inr (none, inl reading)) never = tells task.Apply (answers served) reading.1
-    told_early kind served (inr (none, inr part)) never = tells_part task.Apply (answers served) part.1 never
+    -- for a task of which such rows are kept
+    module _ (law : ArePerformed g) (t : Task) (rows : Option (List ℕ)) (same : rows ≡ row_bytes (Some input)) where
+      told_early : (kind : RefusalKind) (served : List Served) → EndsEarly kind served Got Has → ¬ (HasDone ended)
+          → Tells (run t) (answers served)
+      told_early kind served (inl storage) never = tells t (answers served) storage.2
+      told_early kind served (inr (none, inl reading)) never = tells t (answers served) reading.1
+      told_early kind served (inr (none, inr part)) never = tells_part t (answers served) part.1 never
 
-    rows_served : ArePerformed g → (rows : Option (List ℕ)) → rows ≡ row_bytes (Some input)
-        → Applied over_files rows Got Has taken new → FoundIn task.Apply society c left
-    rows_served law rows same all =
-        let k = performed law (calls_of all.served) all.performed in (
-          k.0,
-          k.1,
-          inr (record {
-            rows = all.rows;
-            served = all.served;
-            read = inl (subst (λ bytes. AreRows bytes all.rows) same all.all, all.certain);
-            each = all.each;
-            counts = k.2;
-            told = tells task.Apply (answers all.served) all.written;
-          }),
-          k.3,
-          inl k.4,
-        )
+      rows_served : (all : Applied over_files rows Got Has taken new)
+          → ((kept : List Done) → (k : KeepsRows (run t) kept) → k.served ≡ all.served → Acts c (Some t) (run t) kept)
+          → FoundIn t society c left
+      rows_served all acts =
+          let k = performed law (calls_of all.served) all.performed in (
+            k.0,
+            k.1,
+            acts k.0
+                (record {
+                  rows = all.rows;
+                  served = all.served;
+                  read = inl (subst (λ bytes. AreRows bytes all.rows) same all.all, all.certain);
+                  each = all.each;
+                  counts = k.2;
+                  told = tells t (answers all.served) all.written;
+                })
+                refl,
+            k.3,
+            inl k.4,
+          )
 
-    rows_ended : ArePerformed g → (kind : RefusalKind) (rows : Option (List ℕ)) → rows ≡ row_bytes (Some input)
-        → EndedEarly over_files kind rows Got Has taken new → ¬ (HasDone ended) → FoundIn task.Apply society c left
-    rows_ended law kind rows same part never =
-        let k = performed law (calls_of part.served) part.performed in (
-          k.0,
-          k.1,
-          inr (record {
-            rows = part.rows;
-            served = part.served;
-            read = inr (subst (λ bytes. AreFirstRows bytes part.rows) same part.first, never);
-            each = part.each;
-            counts = k.2;
-            told = told_early kind part.served part.written never;
-          }),
-          k.3,
-          inl k.4,
-        )
+      -- the first of the rows, all of which were answered
+      rows_stopped : (part : AppliedOf AreFirstRows over_files rows Got Has taken new) → ¬ (HasDone ended)
+          → ((kept : List Done) → (k : KeepsRows (run t) kept) → k.served ≡ part.served
+          → Acts c (Some t) (run t) kept)
+          → FoundIn t society c left
+      rows_stopped part never acts =
+          let k = performed law (calls_of part.served) part.performed in (
+            k.0,
+            k.1,
+            acts k.0
+                (record {
+                  rows = part.rows;
+                  served = part.served;
+                  read = inr (subst (λ bytes. AreFirstRows bytes part.rows) same part.all, never);
+                  each = part.each;
+                  counts = k.2;
+                  told = tells t (answers part.served) part.written;
+                })
+                refl,
+            k.3,
+            inl k.4,
+          )
+
+      rows_ended : (kind : RefusalKind) (part : EndedEarly over_files kind rows Got Has taken new)
+          → ¬ (HasDone ended)
+          → ((kept : List Done) → (k : KeepsRows (run t) kept) → k.served ≡ part.served
+          → Acts c (Some t) (run t) kept)
+          → FoundIn t society c left
+      rows_ended kind part never acts =
+          let k = performed law (calls_of part.served) part.performed in (
+            k.0,
+            k.1,
+            acts k.0
+                (record {
+                  rows = part.rows;
+                  served = part.served;
+                  read = inr (subst (λ bytes. AreFirstRows bytes part.rows) same part.first, never);
+                  each = part.each;
+                  counts = k.2;
+                  told = told_early kind part.served part.written never;
+                })
+                refl,
+            k.3,
+            inl k.4,
+          )
 
     -- ---- one request, with the text of its answer
     -- what a run with this task keeps, where it keeps one request or none
@@ -345,10 +393,52 @@ module _ {R W F : Type 0} (reader : read.Ghosts R) (reads : device.Ghosts R) (wr
           → Finishes faulter.contents fails.failed (as_text r) status between y.faults
           → FoundIn task.Apply society c left
       apply_found law (Ok done) did finishes =
-          rows_served law (row_bytes (reader.remaining x.input)) (ap row_bytes s.reads) did.applied.0
+          rows_served law task.Apply (row_bytes (reader.remaining x.input)) (ap row_bytes s.reads) did.applied.0
+          (λ kept k is. inr k)
       apply_found law (Err kind) did finishes =
-          rows_ended law kind (row_bytes (reader.remaining x.input)) (ap row_bytes s.reads) did.ended.0
-          (undone finishes.0)
+          rows_ended law task.Apply (row_bytes (reader.remaining x.input)) (ap row_bytes s.reads) kind did.ended.0
+          (undone finishes.0) (λ kept k is. inr k)
+
+      -- rows that were served up to a refusal
+      until_refused : (kept : List Done) (k : KeepsRows (run task.ApplyUntilRefused) kept) (served : List Served)
+          → k.served ≡ served → IsUpToRefusal served → (HasDone ended → AreAccepted served)
+          → Acts c (Some task.ApplyUntilRefused) (run task.ApplyUntilRefused) kept
+      until_refused kept k served same stops none = inr (record {
+        rows = k;
+        stops = subst IsUpToRefusal (sym same) stops;
+        none = λ done. subst AreAccepted (sym same) (none done);
+      })
+
+      until_found : ArePerformed g → (r : Stopping)
+          → AppliesUntilRefused over_files reader reads writer writes faulter fails Before After r
+          → Concludes faulter.contents fails.failed task.ApplyUntilRefused (as_stopped r) status between y.faults
+          → FoundIn task.ApplyUntilRefused society c left
+      until_found law (Ok None) did finishes =
+          let all = did.applied in
+          rows_served law task.ApplyUntilRefused (row_bytes (reader.remaining x.input)) (ap row_bytes s.reads) all.0.0
+          (λ kept k same. until_refused kept k all.0.0.served same (accepted_up_to all.0.0.served all.1)
+          (λ done. all.1))
+      until_found law (Ok (Some e)) did finishes =
+          let part = did.applied in
+          let never = undone
+          (refused_with_1 faulter.contents fails.failed task.ApplyUntilRefused
+          (record { refusal = e; unit = unit.Row }) status between y.faults finishes)
+          in
+          rows_stopped law task.ApplyUntilRefused (row_bytes (reader.remaining x.input)) (ap row_bytes s.reads)
+          part.0.0 never
+          (λ kept k same. until_refused kept k part.0.0.served same (refused_up_to part.0.0.served e part.1)
+          (λ done. absurd (never done)))
+      until_found law (Err kind) did finishes =
+          let part = did.ended in
+          let never = undone
+          (refused_with_1 faulter.contents fails.failed task.ApplyUntilRefused (placeless_text kind) status
+          between y.faults finishes)
+          in
+          let up = part.0.1 in
+          rows_ended law task.ApplyUntilRefused (row_bytes (reader.remaining x.input)) (ap row_bytes s.reads) kind
+          part.0.0 never
+          (λ kept k same. until_refused kept k part.0.0.served same (up.0, up.1, up.2, up.3, part.1)
+          (λ done. absurd (never done)))
 
       enter_found : ArePerformed g → (token : List ℕ) (source : ℕ) (o : Outcome)
           → EntersBatch over_files reader reads writer writes faulter fails Before After token source o
@@ -415,6 +505,17 @@ module _ {R W F : Type 0} (reader : read.Ghosts R) (reads : device.Ghosts R) (wr
       published today (Ok done) did = (only_read _ did.written).1
       published today (Err kind) did = (only_read _ did.begun).1
 
+      plain_exported : (r : Plain) → ExportsPlain over_files reader reads writer writes faulter fails Before After r
+          → IsArchive society c left
+      plain_exported (Ok done) did = (only_read _ did.written.2).1
+      plain_exported (Err kind) did = (only_read _ did.begun).1
+
+      plain_published : (today : ℤ) (r : Plain)
+          → PublishesPlain over_files reader reads writer writes faulter fails Before After today r
+          → IsArchive society c left
+      plain_published today (Ok done) did = (only_read _ did.written.2).1
+      plain_published today (Err kind) did = (only_read _ did.begun).1
+
       sheet_printed : (sheet : Sheet) (today : ℤ) (r : Plain)
           → PrintsSheet over_files reader reads writer writes faulter fails Before After sheet today r
           → IsArchive society c left
@@ -460,17 +561,31 @@ module _ {R W F : Type 0} (reader : read.Ghosts R) (reads : device.Ghosts R) (wr
           let had_it = (held.has read.0 society c tables holds had).0 in
           (had_it.0, (read.1 had_it.0 c had_it.1 (seen_of had_it.2)).1 left may, had_it.2)
 
+      table_checked : (source : ℕ) (order : Option DateOrder) (o : Outcome)
+          → ChecksTable over_files reader reads writer writes faulter fails Before After source order o
+          → IsArchive society c left
+      table_checked source order o (inl none) = same_archive none.3
+      table_checked source order o (inr did) =
+          let read = did.2.ended clean in
+          let had_it = (held.has read.0 society c tables holds had).0 in
+          (had_it.0, (read.1 had_it.0 c had_it.1 (seen_of had_it.2)).1 left may, had_it.2)
+
       -- ---- each task
       pub found_by : ArePerformed g → FileComesBack → (t : Task) (o : Outcome) (shown : Option Content)
           → Does over_files reader reads writer writes faulter fails Before After t o shown
-          → Finishes faulter.contents fails.failed o status between y.faults
-          → FoundIn t society c left
+          → Concludes faulter.contents fails.failed t o status between y.faults → FoundIn t society c left
       found_by law back task.Apply o shown did finishes =
           apply_found law did.0.0 did.0.2
           (subst (λ (same : Outcome). Finishes faulter.contents fails.failed same status between y.faults) did.0.1
           finishes)
+      found_by law back task.ApplyUntilRefused o shown did finishes =
+          until_found law did.0.0 did.0.2
+          (subst (λ (same : Outcome). Concludes faulter.contents fails.failed task.ApplyUntilRefused same status
+          between y.faults) did.0.1 finishes)
       found_by law back (task.Entries token source) o shown did finishes =
           enter_found law token source o did.0 finishes
+      found_by law back (task.CheckTable source order) o shown did finishes =
+          keeps_none (task.CheckTable source order) society c left refl (inl (table_checked source order o did.0))
       found_by law back (task.Import token progress) o shown did finishes =
           import_found law token progress o did.0 finishes
       found_by law back task.Export o shown did finishes =
@@ -479,6 +594,10 @@ module _ {R W F : Type 0} (reader : read.Ghosts R) (reads : device.Ghosts R) (wr
           finishes)
       found_by law back (task.ExportPublic today) o shown did finishes =
           keeps_none (task.ExportPublic today) society c left refl (inl (published today did.0.0 did.0.2))
+      found_by law back task.ExportPlain o shown did finishes =
+          keeps_none task.ExportPlain society c left refl (inl (plain_exported did.0.0 did.0.2))
+      found_by law back (task.ExportPublicPlain today) o shown did finishes =
+          keeps_none (task.ExportPublicPlain today) society c left refl (inl (plain_published today did.0.0 did.0.2))
       found_by law back (task.Sheet sheet today) o shown did finishes =
           keeps_none (task.Sheet sheet today) society c left refl (inl (sheet_printed sheet today did.0.0 did.0.2))
       found_by law back (task.Library today) o shown did finishes =

@@ -1,4 +1,4 @@
--- What is told of a run, by what was seen of what it wrote.
+-- What is known of a run, by what was seen of what it wrote.
 use Rattle.std.proofs.Common.{
   ◌≡◌,
   ◌∙◌,

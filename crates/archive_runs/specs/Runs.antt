@@ -20,6 +20,7 @@ use Rattle.store.specs.Lives.{Counts}
 use Rattle.archive_input.specs.Answers.{Served}
 use Rattle.archive_input.specs.Applying.{AreServed, answers, calls_of}
 use Rattle.archive_input.specs.Entering.{batch_request}
+use Rattle.archive_input.specs.Stopping.{AreAccepted, IsUpToRefusal}
 use Rattle.tasks.specs.Texts.{made_text}
 use Rattle.tasks.specs.declared.task.Task.{Task}
 use Rattle.tasks.specs.declared.task.Task.TheVariants as task
@@ -41,14 +42,14 @@ IsDone run = run.status ≡ Some 0
 abbrev pub Tells : Run → List ℕ → Type 0
 Tells run text = ((rest : List ℕ) × (text ≡ run.written ++ rest)) × (IsDone run → run.written ≡ text)
 
--- ---- what is kept of the requests of a run, and told on its output
+-- ---- what is kept of the requests of a run, and written on its output
 -- these rows are all of the input, and no request is in doubt; or the first of it, and it is not done
 abbrev pub HasRead : Run → List Row → List Served → Type 0
 HasRead run rows served = (AreRows (row_bytes (Some run.input)) rows × (in_doubt (calls_of served) ≡ None))
     ⊎ (AreFirstRows (row_bytes (Some run.input)) rows × ¬ (IsDone run))
 
 -- rows were served. Their requests are kept; that of the last may be in doubt, and then it is kept or not, and has no
--- answer. The answers are told: each that stands on the output is of a request that is kept
+-- answer. The answers are written: each that stands on the output is of a request that is kept
 pub record KeepsRows (run : Run) (kept : List Done) : Type 0 where
   pub rows : List Row
   pub served : List Served
@@ -57,11 +58,17 @@ pub record KeepsRows (run : Run) (kept : List Done) : Type 0 where
   pub counts : Counts (calls_of served) kept
   pub told : Tells run (answers served)
 
--- the one request is kept, and nothing is told but this of its answer
+-- rows were served up to the first that was refused, after which none is done; where it is done none was refused
+pub record KeepsUntilRefused (run : Run) (kept : List Done) : Type 0 where
+  pub rows : KeepsRows run kept
+  pub stops : IsUpToRefusal rows.served
+  pub none : IsDone run → AreAccepted rows.served
+
+-- the one request is kept, and nothing is written but this of its answer
 abbrev pub KeepsOne : Run → Request → (Answer → List ℕ) → List Done → Type 0
 KeepsOne run r text kept = (answer : Answer) × (kept ≡ (r, Ok answer) ∷ []) × Tells run (text answer)
 
--- nothing is kept, nothing is told, and it is not done
+-- nothing is kept, nothing is written, and it is not done
 abbrev pub KeepsNone : Run → List Done → Type 0
 KeepsNone run kept = (kept ≡ []) × (run.written ≡ []) × ¬ (IsDone run)
 
@@ -79,6 +86,7 @@ KeepsFile token run kept = (forest : List Item) × IsFileOf (Some run.input) for
 -- reads back as the same records; of no other task anything is kept
 abbrev pub Acts : Content → Option Task → Run → List Done → Type 0
 Acts c (Some task.Apply) run kept = KeepsNone run kept ⊎ KeepsRows run kept
+Acts c (Some task.ApplyUntilRefused) run kept = KeepsNone run kept ⊎ KeepsUntilRefused run kept
 Acts c (Some (task.Entries token source)) run kept = KeepsNone run kept ⊎ KeepsBatch token source run kept
 Acts c (Some (task.Import token progress)) run kept = KeepsNone run kept ⊎ KeepsFile token run kept
 Acts c (Some task.Export) run kept = (kept ≡ []) × (IsDone run → ReadsBack c run.written)

@@ -36,11 +36,11 @@ use Rattle.command_line.specs.Asking.{
   is_meant,
   name_of,
 }
-use Rattle.command_line.specs.Meanings.{records_named, set_named}
+use Rattle.command_line.specs.Meanings.{order_named, records_named, set_named}
 use Rattle.command_line.specs.Commands.{program}
 use Rattle.command_line.specs.declared.tasks.Asked.{Asked}
 use Rattle.command_line.specs.declared.tasks.Asked.TheVariants as asked
-use Rattle.command_line.specs.declared.tasks.RecordKind.{RecordKind}
+use Rattle.command_line.specs.declared.tasks.ListKind.{ListKind}
 use Rattle.command_line.specs.declared.tasks.Refused.{Refused}
 
 at_name : (found : Option (Text × List Row)) (n : Text) → option_map (λ f. f.0) found ≡ Some n
@@ -81,9 +81,18 @@ meant_there {A} meaning (Some w) (Some v) e = ap (λ (o : Option (Option A)). op
 both_true : (a b : Bool) → a ≡ true → b ≡ true → (a && b) ≡ true
 both_true a b e f = rw (e, f) refl
 
-list_there : (o : Option RecordKind) (kind : RecordKind) (source given : Option ℕ) → o ≡ Some kind → source ≡ given
+list_there : (o : Option ListKind) (kind : ListKind) (source given : Option ℕ) → o ≡ Some kind → source ≡ given
     → is_listed kind source ≡ true → option_map_or (λ k. is_listed k given) o false ≡ true
 list_there o kind source given e is listed = rw e (subst (λ (s : Option ℕ). is_listed kind s ≡ true) is listed)
+
+batch_there : {A B : Type 0} (table checked fits : Bool) (token : Option A) (dates : Option B) (t : A)
+    → table ≡ false → checked ≡ false → token ≡ Some t → dates ≡ None
+    → (if table then fits else (is_some token && (not checked && not (is_some dates)))) ≡ true
+batch_there table checked fits token dates t f g e none = rw (f, g, e, none) refl
+
+table_there : (table checked fits meant : Bool) → table ≡ true → checked ≡ true → meant ≡ true
+    → (if table then (checked && meant) else fits) ≡ true
+table_there table checked fits meant t is fit = rw (t, is, fit) refl
 
 -- what is asked for fits the command that it has the name and the words of
 fit_of : (a : Asked) (found : Option (Text × List Row))
@@ -96,16 +105,25 @@ fit_of (asked.Convert from) found e has some =
     fit_by (asked.Convert from) found (codes "convert") e has (λ rows words. meant_there set_named _ from words)
 fit_of (asked.Init file society) found e has some =
     fit_by (asked.Init file society) found (codes "init") e has (λ rows words. refl)
-fit_of (asked.Apply file) found e has some =
-    fit_by (asked.Apply file) found (codes "apply") e has (λ rows words. refl)
+fit_of (asked.Apply file stops) found e has some =
+    fit_by (asked.Apply file stops) found (codes "apply") e has (λ rows words. refl)
 fit_of (asked.Entries file source token) found e has some =
-    fit_by (asked.Entries file source token) found (codes "entries") e has (λ rows words. refl)
+    fit_by (asked.Entries file source token) found (codes "entries") e has
+    (λ rows words. batch_there _ _ _ _ _ token.now words.3 words.4 words.2 words.5)
+fit_of (asked.CheckTable file source order) found e has some =
+    fit_by (asked.CheckTable file source order) found (codes "entries") e has
+    (λ rows words. table_there _ _ _ _ words.2 words.3 (meant_there order_named _ order words.4))
 fit_of (asked.Import file token progress) found e has some =
     fit_by (asked.Import file token progress) found (codes "import") e has (λ rows words. refl)
 fit_of (asked.Export file) found e has some =
     fit_by (asked.Export file) found (codes "export") e has (λ rows words. none_there _ _ _ words.1 words.2)
 fit_of (asked.ExportPublic file today) found e has some =
     fit_by (asked.ExportPublic file today) found (codes "export") e has
+    (λ rows words. day_there _ _ _ today words.1 words.2)
+fit_of (asked.ExportPlain file) found e has some =
+    fit_by (asked.ExportPlain file) found (codes "export") e has (λ rows words. none_there _ _ _ words.1 words.2)
+fit_of (asked.ExportPublicPlain file today) found e has some =
+    fit_by (asked.ExportPublicPlain file today) found (codes "export") e has
     (λ rows words. day_there _ _ _ today words.1 words.2)
 fit_of (asked.Sheet file kind number generations today) found e has some =
     fit_by (asked.Sheet file kind number generations today) found (codes "sheet") e has
@@ -125,6 +143,8 @@ fit_of (asked.Find file names kind limit) found e has some =
     (λ rows words. both_true _ _ words.2 (meant_there records_named _ kind words.3))
 fit_of (asked.Show file numbers) found e has some =
     fit_by (asked.Show file numbers) found (codes "show") e has (λ rows words. refl)
+fit_of (asked.Review file) found e has some =
+    fit_by (asked.Review file) found (codes "review") e has (λ rows words. refl)
 fit_of (asked.Text text) found e has some = absurd cc
 
 -- words in which the grammar finds no fault, and that have the name and the words of what is asked for, ask for it

@@ -1,4 +1,4 @@
--- A table is told to `clap` a row at a time, and numbers are read one at a time.
+-- A table is given to `clap` a row at a time, and numbers are read one at a time.
 use Rattle.std.proofs.Common.{
   ◌≡◌,
   ◌<◌,
@@ -38,7 +38,7 @@ use Rattle.std.specs.Prelude.{fold}
 use Rattle.clap.specs.Words.{Text}
 use Rattle.command_line.specs.Meanings.{are_some}
 
--- with one more row what is told so far and what is left stay all
+-- with one more row what is given so far and what is left stay all
 pub one_more : {A B X : Type 0} (step : A → B → A) (f : X → B) (xs : List X) (i : ℕ) (d : X) (a b all : A)
     → i < length xs → fold step a (map f (drop i xs)) ≡ all → b ≡ step a (f (get_or xs i d))
     → fold step b (map f (drop (i + 1) xs)) ≡ all

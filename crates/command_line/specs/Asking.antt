@@ -41,8 +41,10 @@ use Rattle.command_line.specs.Meanings.{
   generations_of,
   is_searched,
   kind_named,
+  list_named,
   number_of,
   number_up_to,
+  order_named,
   records_named,
   search_words,
   set_named,
@@ -53,20 +55,26 @@ use Rattle.command_line.specs.declared.tasks.Asked.TheVariants.{
   Audit,
   Check,
   CheckAll,
+  CheckTable,
   Convert,
   Days,
   Entries as EntriesAsked,
   Export,
+  ExportPlain,
   ExportPublic,
+  ExportPublicPlain,
   Find,
   Import,
   Init,
   List as ListAsked,
   Norm,
+  Review,
   Serve,
   Sheet,
   Show,
 }
+use Rattle.command_line.specs.declared.tasks.ListKind.{ListKind}
+use Rattle.command_line.specs.declared.tasks.ListKind.TheVariants.{Records, Slips}
 use Rattle.command_line.specs.declared.tasks.RecordKind.{RecordKind}
 use Rattle.command_line.specs.declared.tasks.RecordKind.TheVariants.{Entries}
 use Rattle.command_line.specs.declared.tasks.Refused.{Refused}
@@ -84,11 +92,14 @@ name_of Check = Some (codes "check")
 name_of CheckAll = Some (codes "check")
 name_of (Convert from) = Some (codes "convert")
 name_of (Init file society) = Some (codes "init")
-name_of (Apply file) = Some (codes "apply")
+name_of (Apply file stops) = Some (codes "apply")
 name_of (EntriesAsked file source token) = Some (codes "entries")
+name_of (CheckTable file source order) = Some (codes "entries")
 name_of (Import file token progress) = Some (codes "import")
 name_of (Export file) = Some (codes "export")
 name_of (ExportPublic file today) = Some (codes "export")
+name_of (ExportPlain file) = Some (codes "export")
+name_of (ExportPublicPlain file today) = Some (codes "export")
 name_of (Sheet file kind number generations today) = Some (codes "sheet")
 name_of (Serve file port count today) = Some (codes "serve")
 name_of (Audit file) = Some (codes "audit")
@@ -96,6 +107,7 @@ name_of (Days file first last words) = Some (codes "days")
 name_of (ListAsked file kind source after limit) = Some (codes "list")
 name_of (Find file words kind limit) = Some (codes "find")
 name_of (Show file numbers) = Some (codes "show")
+name_of (Review file) = Some (codes "review")
 name_of _ = None
 
 -- ---- the words that a command is given
@@ -136,6 +148,14 @@ is_given found id = bytes_eq (word_in found id) (codes "true")
 abbrev pub is_public : Option (Text × List Row) → Bool
 is_public found = is_given found (codes "public")
 
+-- `--plain` is given
+abbrev pub is_plain : Option (Text × List Row) → Bool
+is_plain found = is_given found (codes "plain")
+
+-- `--stop` is given
+abbrev pub is_stop : Option (Text × List Row) → Bool
+is_stop found = is_given found (codes "stop")
+
 -- `--progress` is given
 abbrev pub is_told : Option (Text × List Row) → Bool
 is_told found = is_given found (codes "progress")
@@ -144,14 +164,25 @@ is_told found = is_given found (codes "progress")
 abbrev pub is_all : Option (Text × List Row) → Bool
 is_all found = is_given found (codes "all")
 
+-- `--table` and `--check` are given
+abbrev pub is_table : Option (Text × List Row) → Bool
+is_table found = is_given found (codes "table")
+
+abbrev pub is_checked : Option (Text × List Row) → Bool
+is_checked found = is_given found (codes "check")
+
 -- an option is given a word of which this is the meaning; or it is not given, and this is none
 abbrev pub IsMeant : {A : Type 0} → (Text → Option A) → Option Text → Option A → Type 0
 IsMeant meaning word value = option_map meaning word ≡ option_map Some value
 
 -- a list is one of the entries of a source only where it is one of entries
-abbrev pub is_listed : RecordKind → Option ℕ → Bool
-is_listed Entries source = true
-is_listed kind source = not (is_some source)
+abbrev pub is_of_source : RecordKind → Option ℕ → Bool
+is_of_source Entries source = true
+is_of_source kind source = not (is_some source)
+
+abbrev pub is_listed : ListKind → Option ℕ → Bool
+is_listed (Records kind) source = is_of_source kind source
+is_listed Slips source = not (is_some source)
 
 abbrev pub kind_in : Option (Text × List Row) → Option SheetKind
 kind_in found = kind_named (word_in found (codes "KIND"))
@@ -163,17 +194,29 @@ HasWords found CheckAll = is_all found ≡ true
 HasWords found (Convert from) = IsMeant set_named (given_in found (codes "from")) from
 HasWords found (Init file society) = (file.now ≡ word_in found (codes "FILE"))
     × (society.now ≡ word_in found (codes "society"))
-HasWords found (Apply file) = file.now ≡ word_in found (codes "FILE")
+HasWords found (Apply file stops) = (file.now ≡ word_in found (codes "FILE")) × (stops ≡ is_stop found)
 HasWords found (EntriesAsked file source token) =
     (file.now ≡ word_in found (codes "FILE")) × (source ≡ number_of (word_in found (codes "source")))
-    × (token.now ≡ word_in found (codes "token"))
+    × (given_in found (codes "token") ≡ Some token.now) × (is_table found ≡ false) × (is_checked found ≡ false)
+    × (given_in found (codes "dates") ≡ None)
+HasWords found (CheckTable file source order) =
+    (file.now ≡ word_in found (codes "FILE")) × (source ≡ number_of (word_in found (codes "source")))
+    × (is_table found ≡ true) × (is_checked found ≡ true) × IsMeant order_named (given_in found (codes "dates")) order
 HasWords found (Import file token progress) =
     (file.now ≡ word_in found (codes "FILE")) × (token.now ≡ word_in found (codes "token"))
     × (progress ≡ is_told found)
 HasWords found (Export file) =
     (file.now ≡ word_in found (codes "FILE")) × (is_public found ≡ false) × (given_in found (codes "today") ≡ None)
+    × (is_plain found ≡ false)
 HasWords found (ExportPublic file today) =
     (file.now ≡ word_in found (codes "FILE")) × (is_public found ≡ true) × (day_in found ≡ Some today)
+    × (is_plain found ≡ false)
+HasWords found (ExportPlain file) =
+    (file.now ≡ word_in found (codes "FILE")) × (is_public found ≡ false) × (given_in found (codes "today") ≡ None)
+    × (is_plain found ≡ true)
+HasWords found (ExportPublicPlain file today) =
+    (file.now ≡ word_in found (codes "FILE")) × (is_public found ≡ true) × (day_in found ≡ Some today)
+    × (is_plain found ≡ true)
 HasWords found (Sheet file kind number generations today) =
     (file.now ≡ word_in found (codes "FILE")) × (kind_in found ≡ Some kind)
     × (number ≡ number_of (word_in found (codes "NO"))) × (generations ≡ generations_in found)
@@ -182,11 +225,12 @@ HasWords found (Serve file port count today) =
     (file.now ≡ word_in found (codes "FILE")) × (port ≡ number_up_to 65535 (word_in found (codes "port")))
     × (count ≡ number_of (word_in found (codes "count"))) × (day_in found ≡ Some today)
 HasWords found (Audit file) = file.now ≡ word_in found (codes "FILE")
+HasWords found (Review file) = file.now ≡ word_in found (codes "FILE")
 HasWords found (Days file first last words) =
     (file.now ≡ word_in found (codes "FILE")) × (day_given found (codes "from") ≡ Some first)
     × (day_given found (codes "to") ≡ Some last) × (words ≡ is_given found (codes "words"))
 HasWords found (ListAsked file kind source after limit) =
-    (file.now ≡ word_in found (codes "FILE")) × (records_named (word_in found (codes "KIND")) ≡ Some kind)
+    (file.now ≡ word_in found (codes "FILE")) × (list_named (word_in found (codes "KIND")) ≡ Some kind)
     × (source ≡ number_given found (codes "source")) × (is_listed kind source ≡ true)
     × (after ≡ number_of (word_in found (codes "after"))) × (limit ≡ number_given found (codes "limit"))
 HasWords found (Find file words kind limit) =
@@ -215,21 +259,35 @@ is_export_fit found =
 abbrev pub is_meant : {A : Type 0} → (Text → Option A) → Option Text → Bool
 is_meant meaning word = option_map_or (λ w. is_some (meaning w)) word true
 
--- a list has a kind, and a source only with entries
+-- a list has a kind of records or is of slips, and it has a source only with entries
 abbrev pub is_list_fit : Option (Text × List Row) → Bool
 is_list_fit found = option_map_or (λ kind. is_listed kind (number_given found (codes "source")))
-    (records_named (word_in found (codes "KIND"))) false
+    (list_named (word_in found (codes "KIND"))) false
 
 -- a search has words that can be searched for, and where a kind is given it is one
 abbrev pub is_search_fit : Option (Text × List Row) → Bool
 is_search_fit found =
     list_all is_searched (words_in found (codes "WORD")) && is_meant records_named (given_in found (codes "kind"))
 
--- beside the grammar: a sheet has a kind and a day, a room has a day, a list has a kind, a search has words with
--- letters or digits, and what is given of a kind or of a character set is one
+-- a batch has a token, and no word of tables
+abbrev pub is_batch_fit : Option (Text × List Row) → Bool
+is_batch_fit found = is_some (given_in found (codes "token"))
+    && (not (is_checked found) && not (is_some (given_in found (codes "dates"))))
+
+-- a table is checked, and where an order of dates is given it is one; a token is not looked at
+abbrev pub is_table_fit : Option (Text × List Row) → Bool
+is_table_fit found = is_checked found && is_meant order_named (given_in found (codes "dates"))
+
+abbrev pub are_entries_fit : Option (Text × List Row) → Bool
+are_entries_fit found = if is_table found then is_table_fit found else is_batch_fit found
+
+-- beside the grammar: entries are a batch with a token or a table that is checked, a sheet has a kind and a day, a room
+-- has a day, a list has a kind, a search has words with letters or digits, and what is given of a kind, of a character
+-- set or of an order of dates is one
 abbrev pub is_fit : Option (Text × List Row) → Bool
 is_fit found =
     if is_named found (codes "export") then is_export_fit found
+    else if is_named found (codes "entries") then are_entries_fit found
     else if is_named found (codes "sheet") then is_some (kind_in found) && is_some (day_in found)
     else if is_named found (codes "serve") then is_some (day_in found)
     else if is_named found (codes "days") then is_some (day_given found (codes "from")) && is_some
@@ -249,7 +307,7 @@ abbrev pub Asks : List Text → Asked → Type 0
 Asks words asked = IfSome (name_of asked) (λ name. IsTaken words × (command_named words ≡ Some name))
     × HasWords (subcommand_of program words) asked
 
--- work is asked for, unless memory is wanting
+-- work is asked for, unless out of memory
 abbrev pub AsksForWork : Result Asked Refused → Type 0
 AsksForWork result = MatchResult result (λ asked. IsSome (name_of asked)) (λ refused. refused ≡ OutOfMemory)
 

@@ -1,4 +1,4 @@
--- The commands of the program as `clap` is told of them.
+-- The commands of the program as `clap` gets them.
 use Rattle.std.specs.Prelude.{ℕ, List, [], ◌∷◌, Some, true, codes, fold}
 use Rattle.clap.specs.Lexer.{usize_max}
 use Rattle.clap.specs.Words.{App, Rule, Shape, Text, new_rule, with_subcommand}
@@ -61,6 +61,10 @@ source_rule = needed_number_rule (codes "source") 1 4294967295
 abbrev pub token_rule : Rule
 token_rule = needed_rule (codes "token")
 
+-- the same where it may be left out
+abbrev pub maybe_token_rule : Rule
+maybe_token_rule = option_rule (codes "token")
+
 -- `--today YYYY-MM-DD`, any word here
 abbrev pub today_rule : Rule
 today_rule = needed_rule (codes "today")
@@ -85,9 +89,27 @@ last_rule id = record (new_rule id) {
 abbrev pub flag_rule : Text → Rule
 flag_rule name = record (new_rule name) { long = Some name; action = Some SetTrue }
 
+-- `--stop`
+abbrev pub stop_rule : Rule
+stop_rule = flag_rule (codes "stop")
+
+-- `--table`, `--check` and `--dates ORDER`, any word here
+abbrev pub table_rule : Rule
+table_rule = flag_rule (codes "table")
+
+abbrev pub checked_rule : Rule
+checked_rule = flag_rule (codes "check")
+
+abbrev pub order_rule : Rule
+order_rule = option_rule (codes "dates")
+
 -- `--public`
 abbrev pub public_rule : Rule
 public_rule = flag_rule (codes "public")
+
+-- `--plain`
+abbrev pub plain_rule : Rule
+plain_rule = flag_rule (codes "plain")
 
 -- `--progress`
 abbrev pub progress_rule : Rule
@@ -160,16 +182,20 @@ abbrev pub init_shape : Shape
 init_shape = record (new_shape (codes "init")) { rules = file_rule ∷ society_rule ∷ [] }
 
 abbrev pub apply_shape : Shape
-apply_shape = record (new_shape (codes "apply")) { rules = file_rule ∷ [] }
+apply_shape = record (new_shape (codes "apply")) { rules = file_rule ∷ stop_rule ∷ [] }
 
 abbrev pub entries_shape : Shape
-entries_shape = record (new_shape (codes "entries")) { rules = file_rule ∷ source_rule ∷ token_rule ∷ [] }
+entries_shape = record (new_shape (codes "entries")) {
+  rules = file_rule ∷ source_rule ∷ maybe_token_rule ∷ table_rule ∷ checked_rule ∷ order_rule ∷ [];
+}
 
 abbrev pub import_shape : Shape
 import_shape = record (new_shape (codes "import")) { rules = file_rule ∷ token_rule ∷ progress_rule ∷ [] }
 
 abbrev pub export_shape : Shape
-export_shape = record (new_shape (codes "export")) { rules = file_rule ∷ public_rule ∷ maybe_today_rule ∷ [] }
+export_shape = record (new_shape (codes "export")) {
+  rules = file_rule ∷ public_rule ∷ maybe_today_rule ∷ plain_rule ∷ [];
+}
 
 abbrev pub sheet_shape : Shape
 sheet_shape = record (new_shape (codes "sheet")) {
@@ -198,9 +224,13 @@ find_shape = record (new_shape (codes "find")) {
 abbrev pub show_shape : Shape
 show_shape = record (new_shape (codes "show")) { rules = file_rule ∷ records_rule ∷ [] }
 
+abbrev pub review_shape : Shape
+review_shape = record (new_shape (codes "review")) { rules = file_rule ∷ [] }
+
 abbrev pub commands : List Shape
 commands = norm_shape ∷ check_shape ∷ convert_shape ∷ init_shape ∷ apply_shape ∷ entries_shape ∷ import_shape
-    ∷ export_shape ∷ sheet_shape ∷ serve_shape ∷ audit_shape ∷ days_shape ∷ list_shape ∷ find_shape ∷ show_shape ∷ []
+    ∷ export_shape ∷ sheet_shape ∷ serve_shape ∷ audit_shape ∷ days_shape ∷ list_shape ∷ find_shape ∷ show_shape
+    ∷ review_shape ∷ []
 
 -- the program with its commands
 abbrev pub program : App

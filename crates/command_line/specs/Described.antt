@@ -1,4 +1,4 @@
--- What `clap` is told of the tables of commands and of their words.
+-- What `clap` gets of the tables of commands and of their words.
 use Rattle.std.specs.Prelude.{ℕ, Option, Some, None, fold, map}
 use Rattle.clap.specs.Lexer.{usize_max}
 use Rattle.clap.specs.Words.{Rule, Shape, Text, new_app, new_rule, with_rule}

@@ -2,9 +2,18 @@
 use Rattle.std.specs.Prelude.{List, [], ◌∷◌, codes}
 use Rattle.clap.specs.Words.{Text}
 
+abbrev pub stopping_words : Text → List Text
+stopping_words name =
+    name ∷ codes "apply" ∷ codes "ashby.db" ∷ codes "--stop" ∷ []
+
 abbrev pub batch_words : Text → List Text
 batch_words name =
     name ∷ codes "entries" ∷ codes "ashby.db" ∷ codes "--source" ∷ codes "3" ∷ codes "--token" ∷ codes "page-12" ∷ []
+
+abbrev pub table_words : Text → List Text
+table_words name =
+    name ∷ codes "entries" ∷ codes "ashby.db" ∷ codes "--table" ∷ codes "--check" ∷ codes "--source" ∷ codes "3"
+    ∷ codes "--dates" ∷ codes "dmy" ∷ []
 
 abbrev pub import_words : Text → List Text
 import_words name =
@@ -17,6 +26,15 @@ told_import_words name =
 abbrev pub public_words : Text → List Text
 public_words name =
     name ∷ codes "export" ∷ codes "ashby.db" ∷ codes "--public" ∷ codes "--today" ∷ codes "2024-01-01" ∷ []
+
+abbrev pub plain_words : Text → List Text
+plain_words name =
+    name ∷ codes "export" ∷ codes "ashby.db" ∷ codes "--plain" ∷ []
+
+abbrev pub public_plain_words : Text → List Text
+public_plain_words name =
+    name ∷ codes "export" ∷ codes "ashby.db" ∷ codes "--plain" ∷ codes "--public" ∷ codes "--today"
+    ∷ codes "2024-01-01" ∷ []
 
 abbrev pub sheet_words : Text → List Text
 sheet_words name =

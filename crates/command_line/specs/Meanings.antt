@@ -14,6 +14,7 @@ use Rattle.std.specs.Prelude.{
   chars,
   codes,
   nat_le,
+  option_map,
   if◌then◌else◌,
 }
 use Rattle.std.specs.Str.{bytes_eq}
@@ -22,6 +23,10 @@ use Rattle.searching.specs.Folding.{folded_text}
 use Rattle.searching.specs.Words.{words_of}
 use Rattle.clap.specs.Words.{Text}
 use Rattle.clap.specs.ValueTests.{is_unsigned_in}
+use Rattle.command_line.specs.declared.tasks.ListKind.{ListKind}
+use Rattle.command_line.specs.declared.tasks.ListKind.TheVariants.{Records, Slips}
+use Rattle.command_line.specs.declared.tasks.OrderName.{OrderName}
+use Rattle.command_line.specs.declared.tasks.OrderName.TheVariants.{DayFirst, MonthFirst}
 use Rattle.command_line.specs.declared.tasks.RecordKind.{RecordKind}
 use Rattle.command_line.specs.declared.tasks.RecordKind.TheVariants.{
   Citations,
@@ -86,6 +91,17 @@ records_named word =
     else if bytes_eq word (codes "citations") then Some Citations
     else if bytes_eq word (codes "entries") then Some Entries
     else if bytes_eq word (codes "others") then Some Others
+    else None
+
+-- what a word has listed: slips, or records of a kind
+abbrev pub list_named : Text → Option ListKind
+list_named word = if bytes_eq word (codes "slips") then Some Slips else option_map Records (records_named word)
+
+-- the order of dates of a word
+abbrev pub order_named : Text → Option OrderName
+order_named word =
+    if bytes_eq word (codes "dmy") then Some DayFirst
+    else if bytes_eq word (codes "mdy") then Some MonthFirst
     else None
 
 -- the words of a search that a word has, and whether it has some

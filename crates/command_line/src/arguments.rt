@@ -1,4 +1,4 @@
-//! The words and the options of the commands, as `clap` is told of them.
+//! The words and the options of the commands, as `clap` gets them.
 
 ghost use Rattle.std.specs.Prelude.{◌≡◌, false};
 ghost use Rattle.clap.specs.Words.{rule_of};
@@ -42,6 +42,14 @@ pub(crate) const FILE: Word = Word {
     numbers: None,
 };
 
+pub(crate) const STOP: Word = Word {
+    id: "stop",
+    help: "End after the answer of the first row that is refused",
+    form: Form::Flag,
+    needed: false,
+    numbers: None,
+};
+
 pub(crate) const SOCIETY: Word = Word {
     id: "society",
     help: "The name of the society",
@@ -63,6 +71,40 @@ pub(crate) const TOKEN: Word = Word {
     help: "The token of the request: 1 to 64 characters from `!` to `~`",
     form: Form::Named("T"),
     needed: true,
+    numbers: None,
+};
+
+/// The same where it may be left out.
+pub(crate) const MAYBE_TOKEN: Word = Word {
+    id: "token",
+    help: "The token of the request: 1 to 64 characters from `!` to `~`",
+    form: Form::Named("T"),
+    needed: false,
+    numbers: None,
+};
+
+pub(crate) const TABLE: Word = Word {
+    id: "table",
+    help: "The input is a table as a spreadsheet writes it; only with --check",
+    form: Form::Flag,
+    needed: false,
+    numbers: None,
+};
+
+pub(crate) const CHECKED: Word = Word {
+    id: "check",
+    help: "Look a table over, and enter nothing",
+    form: Form::Flag,
+    needed: false,
+    numbers: None,
+};
+
+/// Whether it is an order is judged where it is read.
+pub(crate) const ORDER: Word = Word {
+    id: "dates",
+    help: "The order of dates like 5/6/1761 in a table: dmy or mdy",
+    form: Form::Named("ORDER"),
+    needed: false,
     numbers: None,
 };
 
@@ -114,6 +156,14 @@ const TODAY_HELP: &str = "The day of which it is judged what may be shown";
 pub(crate) const PUBLIC: Word = Word {
     id: "public",
     help: "Only what may be shown on the day of --today",
+    form: Form::Flag,
+    needed: false,
+    numbers: None,
+};
+
+pub(crate) const PLAIN: Word = Word {
+    id: "plain",
+    help: "For other programs: without tags of our own",
     form: Form::Flag,
     needed: false,
     numbers: None,
@@ -254,7 +304,7 @@ pub(crate) const RECORDS: Word = Word {
     numbers: Some((1, MOST_NUMBER)),
 };
 
-/// The word as `clap` is told of it.
+/// The word as `clap` gets it.
 pub(crate) fn arg_of<'a>(alloc: Global, word: &Word) -> Arg<'a>
     ensures rule { rule_of result ≡ rule_described word.now }
     ensures local { result.global ≡ false }

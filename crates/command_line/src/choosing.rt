@@ -16,14 +16,24 @@ ghost use Rattle.std.specs.Prelude.{
 };
 ghost use Rattle.std.specs.List.{list_all};
 ghost use Rattle.clap.specs.Words.{found_of, rows_of};
-ghost use Rattle.command_line.specs.Asking.{AsksForWork, HasWords, IsMeant, is_fit, is_listed, is_meant, name_of};
+ghost use Rattle.command_line.specs.Asking.{
+  AsksForWork,
+  HasWords,
+  IsMeant,
+  is_fit,
+  is_listed,
+  is_meant,
+  is_of_source,
+  name_of,
+};
 ghost use Rattle.command_line.specs.Meanings.{is_searched, records_named, search_words};
 ghost use Rattle.command_line.specs.declared.tasks.Refused.TheVariants.{OutOfMemory};
 
 use crate::refusing::{no_entries, no_value, no_word};
-use crate::tasks::{Asked, RecordKind, Refused};
+use crate::tasks::{Asked, ListKind, RecordKind, Refused};
 use crate::words::{
-    given_number, given_word, number_of, numbers_of, records_named, set_named, word_of, words_of,
+    given_number, given_word, list_named, number_of, numbers_of, records_named, set_named, word_of,
+    words_of,
 };
 use clap::ArgMatches;
 use searching::SearchWords;
@@ -44,15 +54,16 @@ pub(crate) fn convert_asked<'a>(alloc: Global, given: &ArgMatches<'a>) -> Result
     }
 }
 
-/// `list`: the records of a kind. Refused where the kind is none, or a source is given and it is not that of entries.
+/// `list`: the records of a kind, or the slips. Refused where the kind is none, or a source is given and it is not that
+/// of entries.
 pub(crate) fn list_asked<'a>(alloc: Global, given: &ArgMatches<'a>) -> Result<Asked<'a>, Refused>
     ensures asked { IfOk result (λ a. name_of a ≡ Some (codes "list")) }
     ensures words { IfOk result (HasWords (Some (codes "list", rows_of (found_of given.now)))) }
     ensures taken { is_fit (Some (codes "list", rows_of (found_of given.now))) ≡ true → AsksForWork result }
 {
     let word = word_of(given, "KIND");
-    let Some(kind) = records_named(word) else {
-        return Err(no_value(alloc, word, "<KIND>", KINDS));
+    let Some(kind) = list_named(word) else {
+        return Err(no_value(alloc, word, "<KIND>", LISTED));
     };
     let source = given_number(given, "source");
     if !is_listed(kind, source) {
@@ -68,8 +79,18 @@ pub(crate) fn list_asked<'a>(alloc: Global, given: &ArgMatches<'a>) -> Result<As
 }
 
 /// Whether a list of that kind may be given that source.
-fn is_listed(kind: RecordKind, source: Option<u32>) -> bool
+fn is_listed(kind: ListKind, source: Option<u32>) -> bool
     ensures { result ≡ is_listed kind source }
+{
+    match kind {
+        ListKind::Records(kind) => is_of_source(kind, source),
+        ListKind::Slips => source.is_none(),
+    }
+}
+
+/// The same of a list of records.
+fn is_of_source(kind: RecordKind, source: Option<u32>) -> bool
+    ensures { result ≡ is_of_source kind source }
 {
     match kind {
         RecordKind::Entries => true,
@@ -147,5 +168,8 @@ pub(crate) fn show_asked<'a>(alloc: Global, given: &ArgMatches<'a>) -> Result<As
 
 const KINDS: &str =
     "persons, families, events, places, repositories, sources, citations, entries, others";
+
+const LISTED: &str =
+    "persons, families, events, places, repositories, sources, citations, entries, others, slips";
 
 const SETS: &str = "utf-8, utf-16le, utf-16be, 1252, 437, 850, macintosh, ansel";

@@ -1,4 +1,4 @@
-//! The commands as `clap` is told of them.
+//! The commands as `clap` gets them.
 
 ghost use Rattle.std.specs.Prelude.{◌≡◌, IfOk, codes, false, fold, map};
 ghost use Rattle.clap.specs.Words.{app_of, shape_of, with_rule, with_subcommand};
@@ -7,12 +7,14 @@ ghost use Rattle.command_line.specs.Commands.{bare, program};
 ghost use Rattle.command_line.specs.Described.{rule_described, shape_described};
 
 use crate::arguments::{
-    AFTER, ALL, COUNT, FILE, FIRST_DAY, FOUND_LIMIT, GENERATIONS, LAST_DAY, LIMIT, MAYBE_SOURCE,
-    MAYBE_TODAY, OPTION_KIND, PORT, PROGRESS, PUBLIC, RECORD, RECORD_KIND, RECORDS, SEARCH, SET,
-    SHEET_KIND, SOCIETY, SOURCE, TODAY, TOKEN, WORDS, Word, arg_of,
+    AFTER, ALL, CHECKED, COUNT, FILE, FIRST_DAY, FOUND_LIMIT, GENERATIONS, LAST_DAY, LIMIT,
+    MAYBE_SOURCE, MAYBE_TODAY, MAYBE_TOKEN, OPTION_KIND, ORDER, PLAIN, PORT, PROGRESS, PUBLIC,
+    RECORD, RECORD_KIND, RECORDS, SEARCH, SET, SHEET_KIND, SOCIETY, SOURCE, STOP, TABLE, TODAY,
+    TOKEN, WORDS, Word, arg_of,
 };
 use crate::texts_finding::{
-    FIND_ABOUT, FIND_EXAMPLE, LIST_ABOUT, LIST_EXAMPLE, SHOW_ABOUT, SHOW_EXAMPLE,
+    FIND_ABOUT, FIND_EXAMPLE, LIST_ABOUT, LIST_EXAMPLE, REVIEW_ABOUT, REVIEW_EXAMPLE, SHOW_ABOUT,
+    SHOW_EXAMPLE,
 };
 use crate::texts_in::{
     APPLY_ABOUT, APPLY_EXAMPLE, ENTRIES_ABOUT, ENTRIES_EXAMPLE, IMPORT_ABOUT, IMPORT_EXAMPLE,
@@ -54,9 +56,9 @@ pub(crate) struct CommandRow {
 }
 
 /// The commands, in the order of the help.
-const COMMANDS: [CommandRow; 15] = [
+const COMMANDS: [CommandRow; 16] = [
     NORM, CHECK, CONVERT, INIT, APPLY, ENTRIES, IMPORT, EXPORT, SHEET, SERVE, AUDIT, DAYS, LIST,
-    FIND, SHOW,
+    FIND, SHOW, REVIEW,
 ];
 
 const NORM: CommandRow = CommandRow {
@@ -91,14 +93,14 @@ const APPLY: CommandRow = CommandRow {
     name: "apply",
     about: APPLY_ABOUT,
     example: APPLY_EXAMPLE,
-    words: &[FILE],
+    words: &[FILE, STOP],
 };
 
 const ENTRIES: CommandRow = CommandRow {
     name: "entries",
     about: ENTRIES_ABOUT,
     example: ENTRIES_EXAMPLE,
-    words: &[FILE, SOURCE, TOKEN],
+    words: &[FILE, SOURCE, MAYBE_TOKEN, TABLE, CHECKED, ORDER],
 };
 
 const IMPORT: CommandRow = CommandRow {
@@ -112,7 +114,7 @@ const EXPORT: CommandRow = CommandRow {
     name: "export",
     about: EXPORT_ABOUT,
     example: EXPORT_EXAMPLE,
-    words: &[FILE, PUBLIC, MAYBE_TODAY],
+    words: &[FILE, PUBLIC, MAYBE_TODAY, PLAIN],
 };
 
 const SHEET: CommandRow = CommandRow {
@@ -162,6 +164,13 @@ const SHOW: CommandRow = CommandRow {
     about: SHOW_ABOUT,
     example: SHOW_EXAMPLE,
     words: &[FILE, RECORDS],
+};
+
+const REVIEW: CommandRow = CommandRow {
+    name: "review",
+    about: REVIEW_ABOUT,
+    example: REVIEW_EXAMPLE,
+    words: &[FILE],
 };
 
 /// `parish` and its commands.

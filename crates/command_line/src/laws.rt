@@ -8,32 +8,53 @@ ghost use Rattle.command_line.specs.Asking.{
   IsTaken,
   day_given,
   generations_in,
+  is_checked,
   is_given,
+  is_plain,
   is_public,
+  is_stop,
+  is_table,
   is_told,
   kind_in,
   word_in,
 };
-ghost use Rattle.command_line.specs.Meanings.{number_of, number_up_to};
+ghost use Rattle.command_line.specs.Meanings.{number_of, number_up_to, order_named};
 ghost use Rattle.command_line.specs.Commands.{program};
 ghost use Rattle.command_line.specs.Examples.{
   batch_words,
   days_words,
   import_words,
+  plain_words,
+  public_plain_words,
   public_words,
   serve_words,
   sheet_words,
+  stopping_words,
+  table_words,
   told_import_words,
 };
+ghost use Rattle.command_line.specs.declared.tasks.OrderName.TheVariants.{DayFirst};
 ghost use Rattle.command_line.specs.declared.tasks.SheetKind.TheVariants.{Pedigree};
 
-/// Each command is taken where it stands alone after the program's name, whatever that is.
+/// Each command is taken where it stands by itself after the program's name, whatever that is.
 pub fn each_command_is_taken()
     ensures norm { (name : Text) → IsTaken (name ∷ codes "norm" ∷ []) }
     ensures check { (name : Text) → IsTaken (name ∷ codes "check" ∷ []) }
 {}
 
-/// A batch is taken as the help of `entries` shows it, and has the file, the source and the token that are told there.
+/// Rows are taken as the help of `apply` shows them, and end at the first that is refused where `--stop` is given, and
+/// nowhere else.
+pub fn rows_are_taken()
+    ensures taken { (name : Text) → IsTaken (name ∷ codes "apply" ∷ codes "ashby.db" ∷ []) }
+    ensures whole { (name : Text) → is_stop (subcommand_of program (name ∷ codes "apply" ∷ codes "ashby.db" ∷ []))
+        ≡ false }
+    ensures stop_taken { (name : Text) → IsTaken (stopping_words name) }
+    ensures file { (name : Text) → word_in (subcommand_of program (stopping_words name)) (codes "FILE")
+        ≡ codes "ashby.db" }
+    ensures stops { (name : Text) → is_stop (subcommand_of program (stopping_words name)) ≡ true }
+{}
+
+/// A batch is taken as the help of `entries` shows it, and has the file, the source and the token that are shown there.
 pub fn a_batch_is_taken()
     ensures taken { (name : Text) → IsTaken (batch_words name) }
     ensures file { (name : Text) → word_in (subcommand_of program (batch_words name)) (codes "FILE")
@@ -44,7 +65,21 @@ pub fn a_batch_is_taken()
         ≡ codes "page-12" }
 {}
 
-/// An import is taken as the help of `import` shows it, and has the file and the token that are told there; it is told
+/// A table that is checked is taken as the help of `entries` shows it, and has the file, the source and the order of
+/// dates that are shown there.
+pub fn a_checked_table_is_taken()
+    ensures taken { (name : Text) → IsTaken (table_words name) }
+    ensures file { (name : Text) → word_in (subcommand_of program (table_words name)) (codes "FILE")
+        ≡ codes "ashby.db" }
+    ensures source { (name : Text) → number_of (word_in (subcommand_of program (table_words name)) (codes "source"))
+        ≡ 3 }
+    ensures table { (name : Text) → is_table (subcommand_of program (table_words name)) ≡ true }
+    ensures checked { (name : Text) → is_checked (subcommand_of program (table_words name)) ≡ true }
+    ensures order { (name : Text) → order_named (word_in (subcommand_of program (table_words name)) (codes "dates"))
+        ≡ Some DayFirst }
+{}
+
+/// An import is taken as the help of `import` shows it, and has the file and the token that are shown there; it says
 /// how far it is where `--progress` is given, and nowhere else.
 pub fn an_import_is_taken()
     ensures taken { (name : Text) → IsTaken (import_words name) }
@@ -57,10 +92,22 @@ pub fn an_import_is_taken()
     ensures told { (name : Text) → is_told (subcommand_of program (told_import_words name)) ≡ true }
 {}
 
-/// An export for the public is taken as the help of `export` shows it, and is one for the public.
+/// An export for the public is taken as the help of `export` shows it, and is one for the public, and no plain one.
 pub fn a_public_export_is_taken()
     ensures taken { (name : Text) → IsTaken (public_words name) }
     ensures public { (name : Text) → is_public (subcommand_of program (public_words name)) ≡ true }
+    ensures plain { (name : Text) → is_plain (subcommand_of program (public_words name)) ≡ false }
+{}
+
+/// A plain export is taken as the help of `export` shows it, and is a plain one: of the whole archive, or for the
+/// public where `--public` is given too.
+pub fn a_plain_export_is_taken()
+    ensures taken { (name : Text) → IsTaken (plain_words name) }
+    ensures plain { (name : Text) → is_plain (subcommand_of program (plain_words name)) ≡ true }
+    ensures whole { (name : Text) → is_public (subcommand_of program (plain_words name)) ≡ false }
+    ensures public_taken { (name : Text) → IsTaken (public_plain_words name) }
+    ensures public_plain { (name : Text) → is_plain (subcommand_of program (public_plain_words name)) ≡ true }
+    ensures public { (name : Text) → is_public (subcommand_of program (public_plain_words name)) ≡ true }
 {}
 
 /// A sheet is taken as the help of `sheet` shows it, and is the pedigree of 5 generations of the person 17.

@@ -11,6 +11,7 @@ mod arguments;
 mod choosing;
 mod commands;
 mod days;
+mod entering;
 pub mod laws;
 mod reading;
 mod refusing;
@@ -22,4 +23,4 @@ mod texts_out;
 mod words;
 
 pub use reading::read_words;
-pub use tasks::{Asked, RecordKind, Refused, SetName, SheetKind};
+pub use tasks::{Asked, ListKind, OrderName, RecordKind, Refused, SetName, SheetKind};

@@ -29,9 +29,10 @@ ghost use Rattle.command_line.specs.Asking.{
 
 use crate::choosing::{convert_asked, find_asked, list_asked, show_asked};
 use crate::commands::parish_command;
+use crate::entering::entries_asked;
 use crate::showing::{days_asked, export_asked, serve_asked, sheet_asked};
 use crate::tasks::{Asked, Refused};
-use crate::words::{is_yes, number_of, word_of};
+use crate::words::{is_yes, word_of};
 use clap::error::ErrorKind;
 use clap::{ArgMatches, Error};
 use std::alloc::Global;
@@ -89,12 +90,9 @@ fn command_named<'a>(
         }),
         "apply" => Ok(Asked::Apply {
             file: word_of(given, "FILE"),
+            stops: is_yes(word_of(given, "stop")),
         }),
-        "entries" => Ok(Asked::Entries {
-            file: word_of(given, "FILE"),
-            source: number_of(word_of(given, "source")),
-            token: word_of(given, "token"),
-        }),
+        "entries" => entries_asked(alloc, given),
         "import" => Ok(Asked::Import {
             file: word_of(given, "FILE"),
             token: word_of(given, "token"),
@@ -108,6 +106,9 @@ fn command_named<'a>(
         }),
         "days" => days_asked(alloc, given),
         "list" => list_asked(alloc, given),
+        "review" => Ok(Asked::Review {
+            file: word_of(given, "FILE"),
+        }),
         "find" => find_asked(alloc, given),
         "show" => show_asked(alloc, given),
         _ => no_such_command(alloc),

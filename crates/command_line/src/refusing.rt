@@ -17,6 +17,27 @@ pub(crate) fn no_value(alloc: Global, word: &str, place: &str, values: &str) -> 
     ))
 }
 
+/// The words are refused since a batch of entries lacks its token.
+pub(crate) fn no_token(alloc: Global) -> Refused {
+    refused(format!(in alloc;
+        "error: the following required arguments were not provided:\n  --token <T>\n\n{BATCH_USAGE}\n\n{HELP}"
+    ))
+}
+
+/// The words are refused since entries are no table, and that option is of tables.
+pub(crate) fn no_table(alloc: Global, option: &str) -> Refused {
+    refused(format!(in alloc;
+        "error: the argument '{option}' cannot be used without '--table'\n\n{TABLE_USAGE}\n\n{HELP}"
+    ))
+}
+
+/// The words are refused since a table is to be entered.
+pub(crate) fn unchecked(alloc: Global) -> Refused {
+    refused(format!(in alloc;
+        "error: the argument '--table' cannot be used without '--check'\n\n{TABLE_USAGE}\n\n{HELP}"
+    ))
+}
+
 /// The words are refused since an export lacks that option, which goes with one that is given.
 pub(crate) fn lacking(alloc: Global, option: &str) -> Refused {
     refused(format!(in alloc;
@@ -38,7 +59,7 @@ pub(crate) fn no_entries(alloc: Global, kind: &str) -> Refused {
     ))
 }
 
-/// The words are refused with that text, unless memory was wanting for it.
+/// The words are refused with that text, unless out of memory for it.
 fn refused(text: Result<String, AllocError>) -> Refused {
     match text {
         Ok(text) => Refused::Words { text },
@@ -46,6 +67,11 @@ fn refused(text: Result<String, AllocError>) -> Refused {
     }
 }
 
-const EXPORT_USAGE: &str = "Usage: parish export [--public --today <YYYY-MM-DD>] <FILE>";
+const EXPORT_USAGE: &str = "Usage: parish export [--plain] [--public --today <YYYY-MM-DD>] <FILE>";
+
+const BATCH_USAGE: &str = "Usage: parish entries --source <N> --token <T> <FILE>";
+
+const TABLE_USAGE: &str =
+    "Usage: parish entries --table --check --source <N> [--dates <ORDER>] <FILE>";
 
 const HELP: &str = "For more information, try '--help'.\n";

@@ -12,8 +12,8 @@ use crate::words::{generations_of, given_word, is_yes, kind_named, number_of, po
 use clap::ArgMatches;
 use std::alloc::Global;
 
-/// `export`: the whole archive, or where `--public` is given what may be shown of it on a day. Refused where the day is
-/// none, or one is given and `--public` is not.
+/// `export`: the whole archive, or where `--public` is given what may be shown of it on a day; with `--plain` without
+/// tags of our own. Refused where the day is none, or one is given and `--public` is not.
 pub(crate) fn export_asked<'a>(alloc: Global, given: &ArgMatches<'a>) -> Result<Asked<'a>, Refused>
     ensures asked { IfOk result (λ a. name_of a ≡ Some (codes "export")) }
     ensures words { IfOk result (HasWords (Some (codes "export", rows_of (found_of given.now)))) }
@@ -21,13 +21,16 @@ pub(crate) fn export_asked<'a>(alloc: Global, given: &ArgMatches<'a>) -> Result<
 {
     let file = word_of(given, "FILE");
     let day = given_word(given, "today");
+    let plain = is_yes(word_of(given, "plain"));
     if !is_yes(word_of(given, "public")) {
         return match day {
+            None if plain => Ok(Asked::ExportPlain { file }),
             None => Ok(Asked::Export { file }),
             Some(_) => Err(lacking(alloc, "--public")),
         };
     }
     match today_of(given) {
+        Some(today) if plain => Ok(Asked::ExportPublicPlain { file, today }),
         Some(today) => Ok(Asked::ExportPublic { file, today }),
         None => Err(no_day(alloc, day)),
     }

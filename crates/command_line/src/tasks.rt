@@ -23,8 +23,10 @@ pub enum Asked<'a> {
         society: &'a str,
     },
     /// `apply`: the requests of the rows of standard input on the archive in a file, their answers on standard output.
+    /// With `stops` up to the first row that is refused.
     Apply {
         file: &'a str,
+        stops: bool,
     },
     /// `entries`: the rows of standard input as new register entries of a source of the archive in a file, under a
     /// token. The token may be any word.
@@ -33,8 +35,16 @@ pub enum Asked<'a> {
         source: u32,
         token: &'a str,
     },
+    /// `entries --table --check`: what is wrong or doubtful in the table of standard input, whose rows would be
+    /// register entries of a source of the archive in a file, on standard output. Dates of three numbers are in that
+    /// order, where one is given.
+    CheckTable {
+        file: &'a str,
+        source: u32,
+        order: Option<OrderName>,
+    },
     /// `import`: the file of standard input taken into the archive in a file, under a token, and its report on standard
-    /// output. The token may be any word. With `progress` standard error is told how far it is.
+    /// output. The token may be any word. With `progress` standard error says how far it is.
     Import {
         file: &'a str,
         token: &'a str,
@@ -46,6 +56,16 @@ pub enum Asked<'a> {
     },
     /// `export --public`: what may be shown of the archive in a file on a day, as a GEDCOM file, on standard output.
     ExportPublic {
+        file: &'a str,
+        today: i32,
+    },
+    /// `export --plain`: the whole archive without tags of our own, as a GEDCOM file, on standard output.
+    ExportPlain {
+        file: &'a str,
+    },
+    /// `export --plain --public`: what may be shown of the archive in a file on a day, without tags of our own, as a
+    /// GEDCOM file, on standard output.
+    ExportPublicPlain {
         file: &'a str,
         today: i32,
     },
@@ -77,14 +97,18 @@ pub enum Asked<'a> {
         last: i32,
         words: bool,
     },
-    /// `list`: the records of a kind of the archive in a file after a number, a line each, on standard output; the
-    /// entries may be those of a source. There are so many at most; all where that was not given.
+    /// `list`: the records of a kind, or the slips, of the archive in a file after a number, a line each, on standard
+    /// output; the entries may be those of a source. There are so many at most; all where that was not given.
     List {
         file: &'a str,
-        kind: RecordKind,
+        kind: ListKind,
         source: Option<u32>,
         after: u32,
         limit: Option<u32>,
+    },
+    /// `review`: what is doubtful in the archive in a file, a line each, on standard output.
+    Review {
+        file: &'a str,
     },
     /// `find`: the records, of a kind where one is given, of the archive in a file in one of whose names all words
     /// occur, a line each, on standard output. There are so many at most, 1,000 where that was not given.
@@ -116,6 +140,15 @@ pub enum SheetKind {
     Pedigree,
     /// `register`: the entries of a source.
     Register,
+}
+
+/// What is listed.
+#[derive(Clone, Copy, Debug)]
+pub enum ListKind {
+    /// Records of a kind.
+    Records(RecordKind),
+    /// `slips`: what is stored of merges.
+    Slips,
 }
 
 /// The kinds of records.
@@ -160,6 +193,15 @@ pub enum SetName {
     Macintosh,
     /// `ansel`.
     Ansel,
+}
+
+/// The orders of a date of three numbers.
+#[derive(Clone, Copy, Debug)]
+pub enum OrderName {
+    /// `dmy`: day, month and year.
+    DayFirst,
+    /// `mdy`: month, day and year.
+    MonthFirst,
 }
 
 /// Why a command line asks for nothing.

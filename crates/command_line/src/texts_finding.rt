@@ -1,12 +1,13 @@
 //! The help of the commands that find and show records, for whoever keeps the archive.
 
-pub(crate) const LIST_ABOUT: &str = "List the records of a kind";
+pub(crate) const LIST_ABOUT: &str = "List the records of a kind, or the slips of merges";
 
 pub(crate) const LIST_EXAMPLE: &str = "\
 KIND is persons, families, events, places, repositories, sources, citations,
-entries or others. Each record is a line, by number: the number and what tells it
-from others. With --source there are only the entries of that source. The living
-are not hidden: the archive is not changed, and nothing is for visitors.
+entries, others or slips. Each record is a line, by number: the number and what
+tells it from others. A slip says who was merged into whom, and if that was
+undone. With --source there are only the entries of that source. The living are
+not hidden: the archive is not changed, and nothing is for visitors.
 
 Refusals:
   40 BadStored     what is stored is no record: somebody else wrote FILE
@@ -26,7 +27,7 @@ A record is found where one of its names has all words, each at the beginning of
 a word of it: names of persons, of those whom register entries mention, of places
 and repositories, and titles of sources. Case, marks and how letters are composed
 make no difference: muller finds Müller, neil O'Neil. A line is that of `list`,
-and so are the kinds of --kind. Where records are left out, a last line says how
+and so are the kinds of --kind, without slips. Where records are left out, a last line says how
 many: `and 37 more`. A WORD without letters and digits is refused. The living are
 not hidden: the archive is not changed, and nothing is for visitors.
 
@@ -59,3 +60,25 @@ docs/REFUSALS.md, beside the source of parish, says what to do about each.
 
 Example:
   parish show ashby.db 17 21";
+
+pub(crate) const REVIEW_ABOUT: &str = "List what is doubtful";
+
+pub(crate) const REVIEW_EXAMPLE: &str = "\
+Each doubt is a line with the number of a record and what is doubtful: first the
+dates that are words only, then the persons without a name or a surname, the
+families of nobody, the mentions that are not linked although one of that name on
+that page is, the children older than a parent, the events before the birth or
+after the burial of their person, and the register entries with two mentions of
+one person. It is for the eyes: what is listed may be right, and what is wrong
+may not be listed. The living are not hidden: the archive is not changed, and
+nothing is for visitors.
+
+Refusals:
+  40 BadStored     what is stored is no record: somebody else wrote FILE
+  82 NotAnArchive  there is no FILE, or it is no archive
+  95 WriteFailed   standard output could not be written
+  1, 80, 83
+docs/REFUSALS.md, beside the source of parish, says what to do about each.
+
+Example:
+  parish review ashby.db";

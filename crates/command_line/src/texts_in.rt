@@ -18,6 +18,9 @@ token,ok,first,count or token,refused,no.,Name. A refused row changes nothing,
 and the next is done. Who sends a row again under its token gets the same
 answer, and nothing is done twice.
 
+With --stop no row is done after one that is refused: the status is 1 after its
+answer. Use it for rows whose numbers count on those that earlier rows get.
+
 Of each refused row standard error tells which one it is, counted from 1, and
 what is wrong: row <n>: <no.> <Name>: field <place> (<name>): <what>. The place
 of the token is 1, that of the verb 2.
@@ -61,8 +64,9 @@ Refusals of a row:
 docs/REFUSALS.md says when each comes and what to do, docs/FORMATS.md what each
 field may be; both lie beside the source of parish.
 
-Example:
-  parish apply ashby.db < rows.csv > answers.csv";
+Examples:
+  parish apply ashby.db < rows.csv > answers.csv
+  parish apply ashby.db --stop < rows.csv > answers.csv";
 
 pub(crate) const ENTRIES_ABOUT: &str =
     "Enter the rows of standard input as a batch of register entries";
@@ -95,8 +99,17 @@ Refusals, those of a row with `at row <n>`, counted from 1:
 docs/REFUSALS.md, beside the source of parish, says when each comes and what to
 do; so it does of the others: 1, 40, 80, 82, 83, 94 and 95.
 
-Example:
-  parish entries ashby.db --source 3 --token page-12 < page12.csv";
+With --table and --check the input is a table as a spreadsheet writes it, with a
+header row, and nothing is entered: standard output gets a line for all that would
+be refused or is doubtful, row <n>: <no.> <Name>: <column>: <cell>, and at the end
+`<n> rows, <m> wrong, <k> doubtful`; the status is 1 where a row is wrong. Columns
+are kind, page, item, date, place, text and roles, like godparent or godparent 2.
+There, 97 is a column that is not known, 98 one that is missing; no token is
+needed. docs/FORMATS.md says what a cell may be.
+
+Examples:
+  parish entries ashby.db --source 3 --token page-12 < page12.csv
+  parish entries ashby.db --table --check --source 3 --dates dmy < page12.csv";
 
 pub(crate) const IMPORT_ABOUT: &str = "Take the GEDCOM file of standard input into the archive";
 

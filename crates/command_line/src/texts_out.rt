@@ -60,9 +60,14 @@ With --public nothing is written but what may be shown on the day of --today: of
 who is living then the number, the name `Living` and the places in families
 alone. docs/LIVING.md, beside the source of parish, has the rules.
 
+With --plain the file is for other programs: places only by their names, who took
+part in an event as ASSO and notes, register entries as citations and notes of
+their source. It is not for `import`, since no place or entry comes back.
+
 Refusals:
   40 BadStored       what is stored is no record: somebody else wrote FILE
-  70 ExportTooLarge  the file would have more than 67108864 bytes
+  70 ExportTooLarge  the file would have more than 67108864 bytes; with --plain
+                     also a note more than 1048576
   82 NotAnArchive    there is no FILE, or it is no archive
   95 WriteFailed     standard output could not be written
   1, 80, 83
@@ -71,7 +76,9 @@ docs/FORMATS.md what is written of each record.
 
 Examples:
   parish export ashby.db > ashby.ged
-  parish export ashby.db --public --today 2024-01-01 > public.ged";
+  parish export ashby.db --public --today 2024-01-01 > public.ged
+  parish export ashby.db --plain > plain.ged
+  parish export ashby.db --plain --public --today 2024-01-01 > public.ged";
 
 pub(crate) const SHEET_ABOUT: &str =
     "Print a sheet of a person, a family, a pedigree or a register";

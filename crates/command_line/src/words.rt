@@ -7,13 +7,16 @@ ghost use Rattle.clap.specs.Words.{all_of, first_of, found_of, rows_of};
 ghost use Rattle.command_line.specs.Meanings.{
   generations_of,
   kind_named,
+  list_named,
   number_of,
   number_up_to,
+  order_named,
   records_named,
   set_named,
 };
+ghost use Rattle.command_line.specs.declared.tasks.ListKind.TheVariants.{Records};
 
-use crate::tasks::{RecordKind, SetName, SheetKind};
+use crate::tasks::{ListKind, OrderName, RecordKind, SetName, SheetKind};
 use clap::ArgMatches;
 use std::alloc::{AllocError, Global};
 
@@ -153,6 +156,25 @@ pub(crate) fn records_named(word: &str) -> Option<RecordKind>
     }
 }
 
+/// What a word has listed. `None`: nothing.
+pub(crate) fn list_named(word: &str) -> Option<ListKind>
+    ensures { result ≡ list_named word.now }
+{
+    match word {
+        "slips" => Some(ListKind::Slips),
+        _ => records_listed(word),
+    }
+}
+
+fn records_listed(word: &str) -> Option<ListKind>
+    ensures { result ≡ option_map Records (records_named word.now) }
+{
+    match records_named(word) {
+        Some(kind) => Some(ListKind::Records(kind)),
+        None => None,
+    }
+}
+
 /// The character set of a word. `None`: it is none.
 pub(crate) fn set_named(word: &str) -> Option<SetName>
     ensures { result ≡ set_named word.now }
@@ -166,6 +188,17 @@ pub(crate) fn set_named(word: &str) -> Option<SetName>
         "850" => Some(SetName::CodePage850),
         "macintosh" => Some(SetName::Macintosh),
         "ansel" => Some(SetName::Ansel),
+        _ => None,
+    }
+}
+
+/// The order of dates of a word. `None`: it is none.
+pub(crate) fn order_named(word: &str) -> Option<OrderName>
+    ensures { result ≡ order_named word.now }
+{
+    match word {
+        "dmy" => Some(OrderName::DayFirst),
+        "mdy" => Some(OrderName::MonthFirst),
         _ => None,
     }
 }

@@ -33,7 +33,9 @@ use Rattle.archive_files.specs.DatabaseOpening.{IsUntouched}
 use Rattle.archive_files.specs.declared.left.Left.{Left}
 use Rattle.devices.specs.declared.device.Device as device
 use Rattle.parish.specs.Doing.{Does, DoesTask, DoesUnder, Finished, IsNoToken}
-use Rattle.parish.specs.Lists.{find_task, list_task}
+use Rattle.parish.specs.Lists.{find_task, list_task, review_task}
+use Rattle.parish.specs.Rows.{apply_task}
+use Rattle.parish.specs.Tables.{table_task}
 use Rattle.parish.specs.Runs.{IsRun}
 use Rattle.parish.specs.declared.visits.Visits.{Visits}
 use Rattle.archive_runs.specs.Runs.{Carries, Run, Stands}
@@ -116,14 +118,20 @@ module _ {R W F D S : Type 0} {g : disk.Ghosts D} (reader : read.Ghosts R) (read
             (None, refl, idles society.now (made_or_not society.now makes.0 makes.2 makes.3)),
             λ done. begun society.now makes.0 makes.2 finishes done,
           )
-      is_run (asked.Apply file) did = ((Some task.Apply, refl, performs task.Apply did), tt)
+      is_run (asked.Apply file stops) did =
+          let t = apply_task stops in ((Some t, refl, performs t did), tt)
       is_run (asked.Entries file source token) did =
           let t = task.Entries token.now source in ((Some t, refl, under token.now t did), tt)
+      is_run (asked.CheckTable file source order) did =
+          let t = table_task source order in ((Some t, refl, performs t did), tt)
       is_run (asked.Import file token progress) did =
           let t = task.Import token.now progress in ((Some t, refl, under token.now t did), tt)
       is_run (asked.Export file) did = ((Some task.Export, refl, performs task.Export did), tt)
       is_run (asked.ExportPublic file today) did =
           let t = task.ExportPublic today in ((Some t, refl, performs t did), tt)
+      is_run (asked.ExportPlain file) did = ((Some task.ExportPlain, refl, performs task.ExportPlain did), tt)
+      is_run (asked.ExportPublicPlain file today) did =
+          let t = task.ExportPublicPlain today in ((Some t, refl, performs t did), tt)
       is_run (asked.Sheet file which number generations today) did =
           let t = task.Sheet did.0 today in ((Some t, (did.0, did.1, refl), performs t did.2), tt)
       is_run (asked.Serve file port count today) did =
@@ -137,4 +145,6 @@ module _ {R W F D S : Type 0} {g : disk.Ghosts D} (reader : read.Ghosts R) (read
           let t = find_task words which limit in ((Some t, refl, performs t did), tt)
       is_run (asked.Show file numbers) did =
           let t = task.Show numbers in ((Some t, refl, performs t did), tt)
+      is_run (asked.Review file) did =
+          ((Some review_task, refl, performs review_task did), tt)
       is_run (asked.Text text) did = ((None, refl, idles [] (inl did.2.0)), tt)

@@ -31,8 +31,10 @@ use Rattle.archive_files.specs.declared.left.Left.{Left}
 use Rattle.devices.specs.Devices.{AppendsBeginning}
 use Rattle.devices.specs.declared.device.Device as device
 use Rattle.parish.specs.Doing.{Does, DoesUnder, Finished, tells}
-use Rattle.parish.specs.Lists.{find_task, list_task}
+use Rattle.parish.specs.Lists.{find_task, list_task, review_task}
 use Rattle.parish.specs.Rooms.{VisitsEnd}
+use Rattle.parish.specs.Rows.{apply_task}
+use Rattle.parish.specs.Tables.{table_task}
 use Rattle.parish.specs.declared.visits.Visits.{Visits}
 use Rattle.reading_room.specs.Listening.{listening_line}
 use Rattle.record_text.specs.declared.refusal.RefusalKind.TheVariants.{WriteFailed}
@@ -79,16 +81,22 @@ module _ {D S R W F : Type 0} {g : disk.Ghosts D} (reader : read.Ghosts R) (read
   does_at_most_1 asked.CheckAll did = finished_at_most_1 _ did.0
   does_at_most_1 (asked.Convert from) did = converted_at_most_1 _ _ did.0
   does_at_most_1 (asked.Init file society) did = finished_at_most_1 _ did.0
-  does_at_most_1 (asked.Apply file) did =
-      file_at_most_1 task.Apply did.0 did.1
+  does_at_most_1 (asked.Apply file stops) did =
+      file_at_most_1 (apply_task stops) did.0 did.1
   does_at_most_1 (asked.Entries file source token) did =
       under_at_most_1 token.now (task.Entries token.now source) did
+  does_at_most_1 (asked.CheckTable file source order) did =
+      file_at_most_1 (table_task source order) did.0 did.1
   does_at_most_1 (asked.Import file token progress) did =
       under_at_most_1 token.now (task.Import token.now progress) did
   does_at_most_1 (asked.Export file) did =
       file_at_most_1 task.Export did.0 did.1
   does_at_most_1 (asked.ExportPublic file today) did =
       file_at_most_1 (task.ExportPublic today) did.0 did.1
+  does_at_most_1 (asked.ExportPlain file) did =
+      file_at_most_1 task.ExportPlain did.0 did.1
+  does_at_most_1 (asked.ExportPublicPlain file today) did =
+      file_at_most_1 (task.ExportPublicPlain today) did.0 did.1
   does_at_most_1 (asked.Sheet file which number generations today) did =
       file_at_most_1 (task.Sheet did.0 today) did.2.0 did.2.1
   does_at_most_1 (asked.Serve file port count today) did =
@@ -103,6 +111,8 @@ module _ {D S R W F : Type 0} {g : disk.Ghosts D} (reader : read.Ghosts R) (read
       file_at_most_1 (find_task words which limit) did.0 did.1
   does_at_most_1 (asked.Show file numbers) did =
       file_at_most_1 (task.Show numbers) did.0 did.1
+  does_at_most_1 (asked.Review file) did =
+      file_at_most_1 review_task did.0 did.1
   does_at_most_1 (asked.Text text) did = finished_at_most_1 _ did.0
 
   -- ---- what is done says nothing on the faults, but for rows and the progress of an import
@@ -137,15 +147,19 @@ module _ {D S R W F : Type 0} {g : disk.Ghosts D} (reader : read.Ghosts R) (read
   does_quietly asked.CheckAll did is zero = finished_quietly _ did.0 zero
   does_quietly (asked.Convert from) did is zero = absurd (true≢false is)
   does_quietly (asked.Init file society) did is zero = finished_quietly _ did.0 zero
-  does_quietly (asked.Apply file) did is zero = absurd (true≢false is)
+  does_quietly (asked.Apply file stops) did is zero = absurd (true≢false is)
   does_quietly (asked.Entries file source token) did is zero =
       under_quietly token.now (task.Entries token.now source) did refl zero
+  does_quietly (asked.CheckTable file source order) did is zero =
+      file_quietly (table_task source order) did.0 did.1 refl zero
   does_quietly (asked.Import file token progress) did is zero =
       under_quietly token.now (task.Import token.now progress) did is zero
   does_quietly (asked.Export file) did is zero =
       file_quietly task.Export did.0 did.1 refl zero
   does_quietly (asked.ExportPublic file today) did is zero =
       file_quietly (task.ExportPublic today) did.0 did.1 refl zero
+  does_quietly (asked.ExportPlain file) did is zero = absurd (true≢false is)
+  does_quietly (asked.ExportPublicPlain file today) did is zero = absurd (true≢false is)
   does_quietly (asked.Sheet file which number generations today) did is zero =
       file_quietly (task.Sheet did.0 today) did.2.0 did.2.1 refl zero
   does_quietly (asked.Serve file port count today) did is zero =
@@ -160,6 +174,8 @@ module _ {D S R W F : Type 0} {g : disk.Ghosts D} (reader : read.Ghosts R) (read
       file_quietly (find_task words which limit) did.0 did.1 refl zero
   does_quietly (asked.Show file numbers) did is zero =
       file_quietly (task.Show numbers) did.0 did.1 refl zero
+  does_quietly (asked.Review file) did is zero =
+      file_quietly review_task did.0 did.1 refl zero
   does_quietly (asked.Text text) did is zero = finished_quietly _ did.0 zero
 
 -- ---- a room, once the file is closed

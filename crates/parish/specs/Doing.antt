@@ -31,16 +31,20 @@ use Rattle.command_line.specs.declared.tasks.Asked.TheVariants.{
   Audit,
   Check,
   CheckAll,
+  CheckTable,
   Convert,
   Days,
   Entries,
   Export,
+  ExportPlain,
   ExportPublic,
+  ExportPublicPlain,
   Find,
   Import,
   Init,
   List as ListAsked,
   Norm,
+  Review,
   Serve,
   Sheet,
   Show,
@@ -52,8 +56,10 @@ use Rattle.devices.specs.Devices.{Rose}
 use Rattle.devices.specs.declared.device.Device as device
 use Rattle.parish.specs.Converting.{Converts, set_of}
 use Rattle.parish.specs.Ends.{Checks, ChecksAll, Normalises, Shows}
-use Rattle.parish.specs.Lists.{find_task, list_task}
+use Rattle.parish.specs.Lists.{find_task, list_task, review_task}
 use Rattle.parish.specs.Rooms.{IsRoomOf, IsSheetOf}
+use Rattle.parish.specs.Rows.{apply_task}
+use Rattle.parish.specs.Tables.{table_task}
 use Rattle.parish.specs.declared.visits.Visits.{Visits}
 use Rattle.receipts.specs.Tokens.{IsToken}
 use Rattle.record_text.specs.declared.refusal.RefusalKind.{RefusalKind}
@@ -66,8 +72,10 @@ use Rattle.tasks.specs.declared.task.Task.TheVariants as task
 
 -- something may be said on the faults though the work is done
 abbrev pub tells : Asked → Bool
-tells (Apply file) = true
+tells (Apply file stops) = true
 tells (Convert from) = true
+tells (ExportPlain file) = true
+tells (ExportPublicPlain file today) = true
 tells (Import file token progress) = progress
 tells _ = false
 
@@ -135,11 +143,14 @@ module _ {D S R W F : Type 0} {g : disk.Ghosts D} (reader : read.Ghosts R) (read
       (writer.contents x.output) (writer.contents y.output) x.faults y.faults HasReadFailed HasWriteFailed status
       × OpensNothing
   Does (Init file society) = Finished (Makes image left society.now) × IsUnread × IsUnwritten × (room ≡ None)
-  Does (Apply file) = DoesTask task.Apply
+  Does (Apply file stops) = DoesTask (apply_task stops)
   Does (Entries file source token) = DoesUnder token.now (task.Entries token.now source)
+  Does (CheckTable file source order) = DoesTask (table_task source order)
   Does (Import file token progress) = DoesUnder token.now (task.Import token.now progress)
   Does (Export file) = DoesTask task.Export
   Does (ExportPublic file today) = DoesTask (task.ExportPublic today)
+  Does (ExportPlain file) = DoesTask task.ExportPlain
+  Does (ExportPublicPlain file today) = DoesTask (task.ExportPublicPlain today)
   Does (Sheet file which number generations today) = (page : Page) × IsSheetOf which number generations page
       × DoesTask (task.Sheet page today)
   Does (Serve file port count today) = (shown : Option Content)
@@ -150,6 +161,7 @@ module _ {D S R W F : Type 0} {g : disk.Ghosts D} (reader : read.Ghosts R) (read
   Does (ListAsked file which source after limit) = DoesTask (list_task which source after limit)
   Does (Find file words which limit) = DoesTask (find_task words which limit)
   Does (Show file numbers) = DoesTask (task.Show numbers)
+  Does (Review file) = DoesTask review_task
   Does (Text text) = Prints (string_bytes text) × IsUnread × OpensNothing
 
   -- no memory was found to read the words, and nothing is done

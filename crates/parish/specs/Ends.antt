@@ -18,7 +18,7 @@ use Rattle.std.specs.Prelude.{
 use Rattle.std.specs.Fmt.{decimal}
 use Rattle.std.specs.Io.KnownBytes.{Appends, Keeps}
 use Rattle.clap.specs.Words.{subcommand_of}
-use Rattle.command_line.specs.Asking.{IsTaken, command_named, is_told}
+use Rattle.command_line.specs.Asking.{IsTaken, command_named, is_plain, is_told}
 use Rattle.command_line.specs.Commands.{program}
 use Rattle.devices.specs.Devices.{AppendsBeginning}
 use Rattle.archive_input.specs.Faults.{refusal_of}
@@ -43,6 +43,10 @@ AreOf words name = IsTaken words × (command_named words ≡ Some name)
 -- the words are those of an import that says how far it is
 abbrev pub AreOfToldImport : List (List ℕ) → Type 0
 AreOfToldImport words = AreOf words (codes "import") × (is_told (subcommand_of program words) ≡ true)
+
+-- the words are those of an export without tags of our own
+abbrev pub AreOfPlainExport : List (List ℕ) → Type 0
+AreOfPlainExport words = AreOf words (codes "export") × (is_plain (subcommand_of program words) ≡ true)
 
 -- a fault of a file as it is printed, with its line
 abbrev pub fault_text : Fault → RefusalText
@@ -139,3 +143,9 @@ pub record Shows (text : List ℕ) (old new : Option (List ℕ)) (WriterFailed :
   pub done : OnOk outcome (Appends old new text)
   pub refused : IfErr outcome (λ t. (kind : RefusalKind) × (t ≡ placeless_text kind)
       × IsPrintedPart text kind old new WriterFailed)
+
+-- ---- words that are refused
+-- why a command line is refused of which a word is not UTF-8
+unfoldable pub not_utf8_text : List ℕ
+not_utf8_text = codes "error: a word of the command line is not UTF-8" ++ (10 ∷ 10 ∷ codes
+    "For more information, try '--help'." ++ (10 ∷ []))

@@ -1,5 +1,9 @@
--- Which records `list` and `find` ask for, as a task on an open archive has them.
+-- What `list`, `find` and `review` ask for, as a task on an open archive has them.
 use Rattle.std.specs.Prelude.{ℕ, List, [], Option, Some, None, false, option_map, true, unwrap_or}
+use Rattle.archive_lists.specs.declared.listed.Listed.{Listed}
+use Rattle.archive_lists.specs.declared.listed.Listed.TheVariants as listed
+use Rattle.command_line.specs.declared.tasks.ListKind.{ListKind}
+use Rattle.command_line.specs.declared.tasks.ListKind.TheVariants as listing
 use Rattle.command_line.specs.declared.tasks.RecordKind.{RecordKind}
 use Rattle.command_line.specs.declared.tasks.RecordKind.TheVariants as asked
 use Rattle.searching.specs.declared.wanted.Kind.{Kind}
@@ -24,22 +28,34 @@ limit_of None = 18446744073709551615
 limit_of (Some limit) = limit
 
 -- the records of a kind, of a source where one is given
-abbrev pub list_task : RecordKind → Option ℕ → ℕ → Option ℕ → Task
-list_task which source after limit =
-    task.List (record {
+abbrev pub records_listed : RecordKind → Option ℕ → ℕ → ℕ → Listed
+records_listed which source after limit =
+    listed.Records (record {
       wanted = record { kind = Some (kind_of which); source = source; words = [] };
       after = after;
-      limit = limit_of limit;
+      limit = limit;
       counts_others = false;
     })
+
+-- the slips, or the records of a kind
+abbrev pub listed_of : ListKind → Option ℕ → ℕ → ℕ → Listed
+listed_of listing.Slips source after limit = listed.Slips after limit
+listed_of (listing.Records which) source after limit = records_listed which source after limit
+
+abbrev pub list_task : ListKind → Option ℕ → ℕ → Option ℕ → Task
+list_task which source after limit = task.List (listed_of which source after (limit_of limit))
 
 -- the records, of a kind where one is given, with a name in which the words occur: 1,000 without a limit, and how many
 -- are left out
 abbrev pub find_task : List (List ℕ) → Option RecordKind → Option ℕ → Task
 find_task words which limit =
-    task.List (record {
+    task.List (listed.Records (record {
       wanted = record { kind = option_map kind_of which; source = None; words = words };
       after = 0;
       limit = unwrap_or limit 1000;
       counts_others = true;
-    })
+    }))
+
+-- what is doubtful
+abbrev pub review_task : Task
+review_task = task.List listed.Doubts

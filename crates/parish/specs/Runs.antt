@@ -7,20 +7,26 @@ use Rattle.command_line.specs.declared.tasks.Asked.{Asked}
 use Rattle.command_line.specs.declared.tasks.Asked.TheVariants.{
   Apply,
   Audit,
+  CheckTable,
   Days,
   Entries,
   Export,
+  ExportPlain,
   ExportPublic,
+  ExportPublicPlain,
   Find,
   Import,
   Init,
   List as ListAsked,
+  Review,
   Serve,
   Sheet,
   Show,
 }
-use Rattle.parish.specs.Lists.{find_task, list_task}
+use Rattle.parish.specs.Lists.{find_task, list_task, review_task}
 use Rattle.parish.specs.Rooms.{IsSheetOf}
+use Rattle.parish.specs.Rows.{apply_task}
+use Rattle.parish.specs.Tables.{table_task}
 use Rattle.archive_runs.specs.Runs.{Carries, Stands}
 use Rattle.archive_runs.specs.Beginning.{idle}
 use Rattle.archive_output.specs.declared.sheet.Sheet.{Sheet as Page}
@@ -29,11 +35,14 @@ use Rattle.tasks.specs.declared.task.Task.TheVariants as task
 
 -- the task on an archive that is asked for; none where none is
 abbrev pub HasTask : Asked → Option Task → Type 0
-HasTask (Apply file) t = t ≡ Some task.Apply
+HasTask (Apply file stops) t = t ≡ Some (apply_task stops)
 HasTask (Entries file source token) t = t ≡ Some (task.Entries token.now source)
+HasTask (CheckTable file source order) t = t ≡ Some (table_task source order)
 HasTask (Import file token progress) t = t ≡ Some (task.Import token.now progress)
 HasTask (Export file) t = t ≡ Some task.Export
 HasTask (ExportPublic file today) t = t ≡ Some (task.ExportPublic today)
+HasTask (ExportPlain file) t = t ≡ Some task.ExportPlain
+HasTask (ExportPublicPlain file today) t = t ≡ Some (task.ExportPublicPlain today)
 HasTask (Sheet file which number generations today) t = (page : Page) × IsSheetOf which number generations page
     × (t ≡ Some (task.Sheet page today))
 HasTask (Serve file port count today) t = t ≡ Some (task.Library today)
@@ -42,6 +51,7 @@ HasTask (Days file first last words) t = t ≡ Some (task.Days first last words)
 HasTask (ListAsked file which source after limit) t = t ≡ Some (list_task which source after limit)
 HasTask (Find file words which limit) t = t ≡ Some (find_task words which limit)
 HasTask (Show file numbers) t = t ≡ Some (task.Show numbers)
+HasTask (Review file) t = t ≡ Some review_task
 HasTask _ t = t ≡ None
 
 -- a run over the two before, with this input, which wrote this and ended so, leaves the two after

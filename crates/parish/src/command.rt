@@ -11,6 +11,7 @@ ghost use Rattle.std.specs.Prelude.{
   codes,
   map,
   string_bytes,
+  Err,
   None,
 };
 ghost use Rattle.std.specs.IoError.{error_kind};
@@ -19,22 +20,28 @@ ghost use Rattle.sqlite_wal.specs.Recovery.{Image};
 ghost use Rattle.command_line.specs.Asking.{HasWords, IsTaken};
 ghost use Rattle.archive_files.specs.DatabaseOpening.{IsUntouched};
 ghost use Rattle.devices.specs.Devices.{Rose};
+ghost use Rattle.record_text.specs.declared.refusal.RefusalKind.TheVariants as refusal;
 ghost use Rattle.parish.specs.Doing.{Does, DoesWords, IsWanting, RefusesWords};
-ghost use Rattle.parish.specs.Ends.{AreOf, AreOfToldImport, Shows};
+ghost use Rattle.parish.specs.Ends.{AreOf, AreOfPlainExport, AreOfToldImport, Shows, not_utf8_text};
 ghost use Rattle.parish.specs.Runs.{IsRunOf};
+ghost use Rattle.parish.specs.Rows.{apply_task};
 ghost use Rattle.archive_runs.specs.Leaving.{FindsAfter};
 ghost use Rattle.archive_runs.specs.Seeing.{IsSeen, IsSeenAs};
+ghost use Rattle.tasks.specs.Faults.{IsReported};
+ghost use Rattle.tasks.specs.Status.{Finishes, placeless_text};
 
 use crate::archives::{Ended, do_task, enter, make, open_room, take_in};
 use crate::converting::convert;
 use crate::files::{check, check_all, norm};
 use crate::laws::what_is_asked_for_loses_nothing;
 use crate::lists::{find_task, list_task};
+use crate::tables::table_task;
 use crate::visits::sheet_of;
 use archive_files::{Left, Openable};
+use archive_lists::Listed;
 use archive_output::write_text;
 use command_line::{Asked, Refused, read_words};
-use devices::{Device, write_bytes};
+use devices::Device;
 use record_text::{RefusalKind, RefusalText};
 use sqlite::FileFrom;
 use std::io;
@@ -50,11 +57,12 @@ const WORDS_REFUSED: u8 = 2;
 /// serves the room then.
 ///
 /// Results go to `output`, a refusal goes to `faults` as one line, and so does what is wrong with a row of `apply` that
-/// is refused, what `audit` finds wrong, with `--progress` how far an import is, and what `convert` did. Where `faults`
-/// fails too, only the status says so. Where the words are refused nothing is read, and nothing written elsewhere: what
-/// is not taken is answered on `output` only where it asks for help or for the version. Words that are taken are never
-/// refused: what they name is done, with 0, or 1 and a reason. Of each archive that the file held nothing is lost,
-/// however much was seen of the output and of the end, as soon as the file is closed, or given up in a stop.
+/// is refused, what `audit` finds wrong, with `--progress` how far an import is, what `convert` did, and what an export
+/// with `--plain` leaves out. Where `faults` fails too, only the status says so. Where the words are refused nothing is
+/// read, and nothing written elsewhere: what is not taken is answered on `output` only where it asks for help or for
+/// the version. Words that are taken are never refused: what they name is done, with 0, or 1 and a reason. Of each
+/// archive that the file held nothing is lost, however much was seen of the output and of the end, as soon as the file
+/// is closed, or given up in a stop.
 pub fn command<S: Openable, R: Read + Device, W: Write + Device, F: FaultStream>(
     rt: &HostRuntime,
     words: &[String],
@@ -66,7 +74,8 @@ pub fn command<S: Openable, R: Read + Device, W: Write + Device, F: FaultStream>
     ensures status { result.0 ≤ 2 }
     ensures done { result.0 ≡ 0 → ¬ (AreOf (map string_bytes words.now) (codes "apply"))
         → ¬ (AreOf (map string_bytes words.now) (codes "convert"))
-        → ¬ (AreOfToldImport (map string_bytes words.now)) → faults.new ≡ faults.old }
+        → ¬ (AreOfToldImport (map string_bytes words.now))
+        → ¬ (AreOfPlainExport (map string_bytes words.now)) → faults.new ≡ faults.old }
     ensures words { result.0 ≡ 2 → (input.new ≡ input.old) × (output.new ≡ output.old) × IsUntouched result.1
         × (result.2 ≡ None) }
     ensures does { IsTaken (map string_bytes words.now)
@@ -136,12 +145,23 @@ fn work<S: Openable, R: Read + Device, W: Write + Device, F: FaultStream>(
             let (status, left) = make(rt, file, society, start, faults);
             (status, left, None)
         }
-        Asked::Apply { file } => do_task(rt, file, Task::Apply, start, input, output, faults),
+        Asked::Apply { file, stops } => {
+            let task = apply_task(stops);
+            do_task(rt, file, task, start, input, output, faults)
+        }
         Asked::Entries {
             file,
             source,
             token,
         } => enter(rt, file, token, source, start, input, output, faults),
+        Asked::CheckTable {
+            file,
+            source,
+            order,
+        } => {
+            let task = table_task(source, order);
+            do_task(rt, file, task, start, input, output, faults)
+        }
         Asked::Import {
             file,
             token,
@@ -150,6 +170,13 @@ fn work<S: Openable, R: Read + Device, W: Write + Device, F: FaultStream>(
         Asked::Export { file } => do_task(rt, file, Task::Export, start, input, output, faults),
         Asked::ExportPublic { file, today } => {
             let task = Task::ExportPublic { today };
+            do_task(rt, file, task, start, input, output, faults)
+        }
+        Asked::ExportPlain { file } => {
+            do_task(rt, file, Task::ExportPlain, start, input, output, faults)
+        }
+        Asked::ExportPublicPlain { file, today } => {
+            let task = Task::ExportPublicPlain { today };
             do_task(rt, file, task, start, input, output, faults)
         }
         Asked::Sheet {
@@ -202,11 +229,27 @@ fn work<S: Openable, R: Read + Device, W: Write + Device, F: FaultStream>(
             let task = Task::Show { numbers };
             do_task(rt, file, task, start, input, output, faults)
         }
+        Asked::Review { file } => {
+            let listing = Listed::Doubts;
+            let task = Task::List { listing };
+            do_task(rt, file, task, start, input, output, faults)
+        }
         Asked::Text { text } => (
             status_of(show(&text, output), faults),
             Left::Untouched(start),
             None,
         ),
+    }
+}
+
+/// The rows of the input; with `stops` up to the first that is refused.
+fn apply_task(stops: bool) -> Task
+    ensures { result ≡ apply_task stops }
+{
+    if stops {
+        Task::ApplyUntilRefused
+    } else {
+        Task::Apply
     }
 }
 
@@ -221,20 +264,22 @@ fn show<W: Write + Device>(text: &str, output: &mut W) -> Result<(), RefusalText
     }
 }
 
-/// Prints why the words were refused.
-fn refuse_words<F: Write + Device>(faults: &mut F, text: &str) -> u8
-    ensures { result ≡ 2 }
+/// Prints why the words were refused. Where `faults` fails, by its count, only the status says so.
+fn refuse_words<F: FaultStream>(faults: &mut F, text: &str) -> u8
+    ensures status { result ≡ 2 }
+    ensures reported { IsReported F.contents F.failed faults.old faults.new text.now }
 {
-    let before = faults.failures();
-    let _ = write_bytes(faults, before, text.as_bytes());
+    faults.report(text.as_bytes());
     WORDS_REFUSED
 }
 
-/// The exit status of a command line that could not be read, because of a word that is not UTF-8
-/// or out of memory.
+/// The exit status of a command line that could not be read, because of a word that is not UTF-8, or out of memory;
+/// which of these goes to `faults`, as the text of words that are refused or as the line of a refusal.
 pub fn refuse_command_line<F: FaultStream>(error: &io::Error, faults: &mut F) -> u8
-    ensures memory { error_kind error.now ≡ ErrorKind.OutOfMemory → result ≡ 1 }
-    ensures words { error_kind error.now ≢ ErrorKind.OutOfMemory → result ≡ 2 }
+    ensures memory { error_kind error.now ≡ ErrorKind.OutOfMemory
+        → Finishes F.contents F.failed (Err (placeless_text refusal.OutOfMemory)) result faults.old faults.new }
+    ensures words { error_kind error.now ≢ ErrorKind.OutOfMemory
+        → (result ≡ 2) × IsReported F.contents F.failed faults.old faults.new not_utf8_text }
 {
     if error.kind() == ErrorKind::OutOfMemory {
         status_of(Err(placeless(RefusalKind::OutOfMemory)), faults)

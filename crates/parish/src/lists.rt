@@ -3,7 +3,8 @@
 ghost use Rattle.std.specs.Prelude.{◌≡◌};
 ghost use Rattle.parish.specs.Lists as lists;
 
-use command_line::RecordKind;
+use archive_lists::Listed;
+use command_line::{ListKind, RecordKind};
 use searching::{Kind, Listing, SearchWords, Wanted};
 use std::alloc::Global;
 use tasks::Task;
@@ -11,26 +12,52 @@ use tasks::Task;
 /// The most lines that `find` prints without a limit: docs/FORMATS.md.
 const MOST_FOUND: u32 = 1000;
 
-/// `list`: the records of a kind after a number, of register entries those of a source where one is given.
+/// `list`: the records of a kind, or the slips, after a number; of register entries those of a source where one is
+/// given.
 pub(crate) fn list_task(
     alloc: Global,
-    kind: RecordKind,
+    kind: ListKind,
     source: Option<u32>,
     after: u32,
     limit: Option<u32>,
 ) -> Task
     ensures { result ≡ lists.list_task kind source after limit }
 {
+    Task::List {
+        listing: listed_of(alloc, kind, source, after, limit_of(limit)),
+    }
+}
+
+/// The slips, or the records of a kind.
+fn listed_of(alloc: Global, kind: ListKind, source: Option<u32>, after: u32, limit: usize) -> Listed
+    ensures { result ≡ lists.listed_of kind source after limit }
+{
+    match kind {
+        ListKind::Slips => Listed::Slips { after, limit },
+        ListKind::Records(kind) => records_listed(alloc, kind, source, after, limit),
+    }
+}
+
+/// The records of a kind, of a source where one is given.
+fn records_listed(
+    alloc: Global,
+    kind: RecordKind,
+    source: Option<u32>,
+    after: u32,
+    limit: usize,
+) -> Listed
+    ensures { result ≡ lists.records_listed kind source after limit }
+{
     let wanted = Wanted {
         kind: Some(kind_of(kind)),
         source,
         words: SearchWords::new(alloc),
     };
-    Task::List {
+    Listed::Records {
         listing: Listing {
             wanted,
             after,
-            limit: limit_of(limit),
+            limit,
             counts_others: false,
         },
     }
@@ -49,13 +76,14 @@ pub(crate) fn find_task(words: SearchWords, kind: Option<RecordKind>, limit: Opt
         source: None,
         words,
     };
+    let listing = Listing {
+        wanted,
+        after: 0,
+        limit: limit.unwrap_or(MOST_FOUND) as usize,
+        counts_others: true,
+    };
     Task::List {
-        listing: Listing {
-            wanted,
-            after: 0,
-            limit: limit.unwrap_or(MOST_FOUND) as usize,
-            counts_others: true,
-        },
+        listing: Listed::Records { listing },
     }
 }
 

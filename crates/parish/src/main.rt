@@ -16,6 +16,7 @@ mod files;
 mod laws;
 mod lists;
 mod running;
+mod tables;
 mod visits;
 
 use crate::running::run;

@@ -1,6 +1,6 @@
 -- Tasks of a day, whose number is read from a word of 32 bits.
 use Rattle.std.proofs.Common.{◌≡◌, ◌⊎◌, ℕ, List, subst, Ok}
-use Rattle.std.specs.Prelude.{◌≤ℤ◌, ℤ, Bool, Option, Some, IfErr, OnOk}
+use Rattle.std.specs.Prelude.{◌≤ℤ◌, ℤ, Bool, Option, Some, IfErr, OnErr, OnOk}
 use Rattle.std.specs.declared.io.Read as read
 use Rattle.std.specs.declared.io.Write as write
 use Rattle.sqlite.specs.State.{State}
@@ -13,9 +13,22 @@ use Rattle.archive_output.specs.Reading.{OnOpen}
 use Rattle.store.specs.Archives.{HasArchive}
 use Rattle.store.specs.Histories.{has_broken}
 use Rattle.archive_output.specs.Showing.{IsShown, OfSound}
+use Rattle.archive_output.specs.Plain.{IsPartPlainPublished, IsPlainPublished}
 use Rattle.archive_output.specs.Writing.{IsPartPublished, IsPublished, IsSheetRefused, IsSheetWritten}
 use Rattle.archive_output.specs.declared.sheet.Sheet.{Sheet}
-use Rattle.tasks.specs.Ends.{HasWriteFailed, IsUntouched, ListsDays, LooksAt, OnHeld, OnSound, PrintsSheet, Publishes}
+use Rattle.tasks.specs.Ends.{
+  HasWriteFailed,
+  IsQuiet,
+  IsUntouched,
+  ListsDays,
+  LooksAt,
+  OnHeld,
+  OnSound,
+  PrintsSheet,
+  Publishes,
+  PublishesPlain,
+  Reports,
+}
 use Rattle.tasks.specs.Moments.{Moment}
 use Rattle.tasks.specs.Parts.{Shelves}
 use Rattle.tasks.specs.Status.{Outcome, Plain}
@@ -50,6 +63,23 @@ module _ {S R W F : Type 0} (g : Ghosts S) (reader : read.Ghosts R) (reads : dev
   publishes_on f d r e written begun sound unread blamed looks =
       subst (λ (t : ℤ). Publishes g reader reads writer writes faulter fails a b t r) e
       (record { written = written; begun = begun; sound = sound; unread = unread; blamed = blamed; looks = looks })
+
+  pub publishes_plain_on : (f d : ℤ) (r : Plain) → f ≡ d
+      → OnOk r ((left_out : List ℕ) × Reports g reader reads writer writes faulter fails a b left_out
+      × OnHeld g reader reads writer writes faulter fails a b
+      (IsPlainPublished (writer.contents a.output) (writer.contents b.output) left_out f)
+      × OnSound g reader reads writer writes faulter fails a b (λ c. (society : List ℕ)
+      × IsPlainPublished (writer.contents a.output) (writer.contents b.output) left_out f society c))
+      → OnErr r (IsQuiet g reader reads writer writes faulter fails a b)
+      → IfErr r (λ kind. OnHeld g reader reads writer writes faulter fails a b
+      (IsPartPlainPublished kind (writer.contents a.output) (writer.contents b.output) f))
+      → IsUntouched g reader reads writer writes faulter fails a b r
+      → IfErr r (λ kind. kind ≡ WriteFailed → HasWriteFailed g reader reads writer writes faulter fails a b)
+      → LooksAt g reader reads writer writes faulter fails a b (has_broken r)
+      → PublishesPlain g reader reads writer writes faulter fails a b d r
+  publishes_plain_on f d r e written quiet begun unread blamed looks =
+      subst (λ (t : ℤ). PublishesPlain g reader reads writer writes faulter fails a b t r) e
+      (record { written = written; quiet = quiet; begun = begun; unread = unread; blamed = blamed; looks = looks })
 
   pub prints_on : (sheet : Sheet) (f d : ℤ) (r : Plain) → f ≡ d
       → OnOk r (OnHeld g reader reads writer writes faulter fails a b

@@ -3,5 +3,7 @@ mod Aloud
 mod Blamed
 mod Days
 mod Hiding
+mod PlainRuns
 mod Publishing
 pub mod Quiet
+mod Whole

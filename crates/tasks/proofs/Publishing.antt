@@ -13,7 +13,7 @@ use Rattle.record_text.specs.declared.refusal.RefusalKind.TheVariants.{
 use Rattle.archive_output.specs.Writing.{IsCut}
 use Rattle.tasks.specs.Hiding.{HasFailed}
 
--- what stops an export of an archive that was read before is want of memory
+-- what stops an export of an archive that was read before is out of memory
 stopped : (kind : RefusalKind) → is_stop kind ≡ true → is_failure kind ≡ false → HasFailed kind
 stopped OutOfMemory stop fails = inr (inr refl)
 stopped BadStored stop fails = absurd (true≢false fails)

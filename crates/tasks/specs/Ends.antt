@@ -18,6 +18,8 @@ use Rattle.std.specs.Prelude.{
   Ok,
   Err,
   IfErr,
+  IfOk,
+  OnErr,
   OnOk,
 }
 use Rattle.std.specs.FinMap.{keys}
@@ -30,6 +32,7 @@ use Rattle.sqlite_trees.specs.declared.store.Store.{Ghosts}
 use Rattle.table_looks.specs.Judging.{Audit, Judges, Tells, without_fault}
 use Rattle.archive_output.specs.Exporting.{IsPart, export_text}
 use Rattle.archive_output.specs.Reading.{OnOpen, OnlyReads, OnlyReadsAny}
+use Rattle.archive_lists.specs.Checks.{EndsChecking}
 use Rattle.archive_lists.specs.Ends.{EndsWriting, OnRead}
 use Rattle.archive_lists.specs.Texts.{list_text, shown_text}
 use Rattle.archive_state.specs.Content.{Content}
@@ -41,12 +44,15 @@ use Rattle.devices.specs.declared.device.Device as device
 use Rattle.archive_input.specs.Importing.{ImportsAll, IsUntold, TellsImported}
 use Rattle.archive_input.specs.Telling.{import_text}
 use Rattle.gedcom_export.specs.Ends.{IsWhole}
+use Rattle.page_checks.specs.Page.{page_check}
+use Rattle.page_entries.specs.declared.dates.DateOrder.{DateOrder}
 use Rattle.receipts.specs.declared.answer.Answer.{Answer}
 use Rattle.receipts.specs.declared.report.ReportLine.{ReportLine}
 use Rattle.record_text.specs.declared.refusal.Refusal.{Refusal}
 use Rattle.record_text.specs.declared.refusal.RefusalKind.{RefusalKind}
 use Rattle.record_text.specs.declared.refusal.RefusalKind.TheVariants.{ReadFailed, Reopen, Storage, WriteFailed}
 use Rattle.archive_output.specs.Showing.{OfSound}
+use Rattle.archive_output.specs.Plain.{IsPartPlainPublished, IsPlainPart, IsPlainPublished, IsPlainWhole}
 use Rattle.archive_output.specs.Writing.{IsPartPublished, IsPublished, IsSheetRefused, IsSheetWritten}
 use Rattle.archive_output.specs.declared.sheet.Sheet.{Sheet}
 use Rattle.store.specs.Calls.{Reads}
@@ -54,10 +60,14 @@ use Rattle.store.specs.Histories.{has_broken}
 use Rattle.store.specs.Telling.{TellsImport}
 use Rattle.archive_input.specs.Entering.{Enters, IsNoBatch}
 use Rattle.archive_input.specs.RowByRow.{AppliedInTurn, EndedInTurn, Moment as RowMoment}
+use Rattle.archive_input.specs.Stopping.{AppliedUntilRefused, EndedUntilRefused}
+use Rattle.tasks.specs.Checking.{AreRead, Checking, IsUnread as IsUnreadTable, SaysFound, as_checked}
 use Rattle.tasks.specs.Counts.{SaysCount, SaysPart}
+use Rattle.tasks.specs.Faults.{IsReported}
 use Rattle.tasks.specs.Moments.{Moment}
 use Rattle.tasks.specs.Parts.{IsPrintedPart, PrintsAudit, Shelves}
-use Rattle.tasks.specs.Status.{Finishes, Outcome, Plain, as_text, is_80, placeless_text}
+use Rattle.tasks.specs.Status.{Outcome, Plain, as_text, is_80, placeless_text}
+use Rattle.tasks.specs.Stopping.{Concludes, Stopping, as_stopped}
 use Rattle.tasks.specs.Texts.{made_text}
 use Rattle.tasks.specs.declared.task.Task.{Task}
 use Rattle.tasks.specs.declared.task.Task.TheVariants as task
@@ -90,6 +100,10 @@ module _ {S R W F : Type 0} (g : Ghosts S) (reader : read.Ghosts R) (reads : dev
   -- nothing was said on the faults
   abbrev pub IsQuiet : Type 0
   IsQuiet = b.faults ≡ a.faults
+
+  -- the faults got the text, whole but where they failed, by their count
+  abbrev pub Reports : List ℕ → Type 0
+  Reports text = IsReported faulter.contents fails.failed a.faults b.faults text
 
   -- the output got the text
   abbrev pub Prints : List ℕ → Type 0
@@ -127,6 +141,14 @@ module _ {S R W F : Type 0} (g : Ghosts S) (reader : read.Ghosts R) (reads : dev
         (row_bytes (reader.remaining a.input)) (RowsAt a) (RowsAt b))
     pub blamed : IfErr r IsBlamed
 
+  -- the rows up to the first that is refused, which is reported as any
+  pub record AppliesUntilRefused (r : Stopping) : Type 0 where
+    pub applied : IfOk r (λ stop. AppliedUntilRefused g writer.contents faulter.contents stop
+        (row_bytes (reader.remaining a.input)) (RowsAt a) (RowsAt b))
+    pub ended : IfErr r (λ kind. EndedUntilRefused g writer.contents faulter.contents kind
+        (row_bytes (reader.remaining a.input)) (RowsAt a) (RowsAt b))
+    pub blamed : IfErr r IsBlamed
+
   -- ---- a batch of register entries, under a token, of a source
   abbrev pub Batch : List ℕ → ℕ → Result Answer Refusal → Type 0
   Batch token source o = Enters g token source (row_bytes (reader.remaining a.input)) a.archive o b.archive
@@ -142,6 +164,30 @@ module _ {S R W F : Type 0} (g : Ghosts S) (reader : read.Ghosts R) (reads : dev
     pub refused : IfErr outcome (λ t. ((Batch token source (Err t.refusal) ⊎ NoBatch t.refusal) × PrintsNothing)
         ⊎ ((answer : Answer) × (kind : RefusalKind) × (t ≡ placeless_text kind) × Batch token source (Ok answer)
         × PrintsPart (made_text answer) kind))
+
+  -- ---- a table that is checked
+  -- the input was not read, and the archive is as it was
+  abbrev pub IsNoTable : Outcome → Type 0
+  IsNoTable outcome = (kind : RefusalKind) × (outcome ≡ Err (placeless_text kind))
+      × IsUnreadTable (reader.remaining a.input) HasReadFailed kind × (b.archive ≡ a.archive) × IsUnwritten × IsQuiet
+
+  -- these bytes were looked over: a line for all that is wrong or doubtful was printed, or a prefix of that; or the
+  -- faults got why they are no table
+  pub record LooksOver (source : ℕ) (order : Option DateOrder) (bytes : List ℕ) (outcome : Outcome) : Type 0 where
+    pub found : Checking
+    pub is : outcome ≡ as_checked found
+    pub ended : OnRead (state g a.archive.conn) (state g b.archive.conn) (λ c. EndsChecking found
+        (writer.contents a.output) (writer.contents b.output) (page_check c source order bytes))
+    pub said : SaysFound faulter.contents fails.failed found a.faults b.faults
+    pub unread : IfErr found (λ kind. is_failure kind ≡ true → PrintsNothing)
+    pub blamed : IfErr found (λ kind. kind ≡ WriteFailed → HasWriteFailed)
+    pub stays : OnlyReads g a.archive b.archive
+    pub lost : b.archive.is_lost ≡ has_broken found
+
+  -- the table of the input was looked over, whether the archive is sound or not; or it was not read
+  abbrev pub ChecksTable : ℕ → Option DateOrder → Outcome → Type 0
+  ChecksTable source order outcome = IsNoTable outcome
+      ⊎ ((bytes : List ℕ) × AreRead (reader.remaining a.input) bytes × LooksOver source order bytes outcome)
 
   -- ---- a file, under a token
   abbrev pub FileWhole : List ℕ → Answer → List ReportLine → Type 0
@@ -199,6 +245,31 @@ module _ {S R W F : Type 0} (g : Ghosts S) (reader : read.Ghosts R) (reads : dev
     pub blamed : IfErr r (λ kind. kind ≡ WriteFailed → HasWriteFailed)
     pub looks : LooksAt (has_broken r)
 
+  -- its plain archive as a file, under the name of its society, and on the faults what that leaves out; or a prefix of
+  -- the file, and nothing on the faults
+  pub record ExportsPlain (r : Plain) : Type 0 where
+    pub written : OnOk r ((left_out : List ℕ) × Reports left_out
+        × OnHeld (IsPlainWhole (writer.contents a.output) (writer.contents b.output) left_out))
+    pub quiet : OnErr r IsQuiet
+    pub begun : IfErr r (λ kind. OnHeld (IsPlainPart kind (writer.contents a.output) (writer.contents b.output)))
+    pub unread : IsUntouched r
+    pub blamed : IfErr r (λ kind. kind ≡ WriteFailed → HasWriteFailed)
+    pub looks : LooksAt (has_broken r)
+
+  -- the same of what may be shown of it on a day. It is written only of an archive that is sound, whoever wrote its
+  -- tables
+  pub record PublishesPlain (today : ℤ) (r : Plain) : Type 0 where
+    pub written : OnOk r ((left_out : List ℕ) × Reports left_out
+        × OnHeld (IsPlainPublished (writer.contents a.output) (writer.contents b.output) left_out today)
+        × OnSound (λ c. (society : List ℕ) × IsPlainPublished (writer.contents a.output) (writer.contents b.output)
+        left_out today society c))
+    pub quiet : OnErr r IsQuiet
+    pub begun : IfErr r (λ kind. OnHeld (IsPartPlainPublished kind (writer.contents a.output)
+        (writer.contents b.output) today))
+    pub unread : IsUntouched r
+    pub blamed : IfErr r (λ kind. kind ≡ WriteFailed → HasWriteFailed)
+    pub looks : LooksAt (has_broken r)
+
   -- a sheet of what may be shown of it on a day; or why not. It is written only of an archive that is sound
   pub record PrintsSheet (sheet : Sheet) (today : ℤ) (r : Plain) : Type 0 where
     pub written : OnOk r (OnHeld (λ _ c. IsSheetWritten (writer.contents a.output) (writer.contents b.output) sheet
@@ -247,11 +318,16 @@ module _ {S R W F : Type 0} (g : Ghosts S) (reader : read.Ghosts R) (reads : dev
   -- what was done by its outcome, before the line of a refusal, with what is to be shown
   abbrev pub Does : Task → Outcome → Option Content → Type 0
   Does task.Apply outcome shown = Ended outcome Applies × (shown ≡ None)
+  Does task.ApplyUntilRefused outcome shown =
+      ((r : Stopping) × (outcome ≡ as_stopped r) × AppliesUntilRefused r) × (shown ≡ None)
   Does (task.Entries token source) outcome shown = EntersBatch token source outcome × IsQuiet × (shown ≡ None)
+  Does (task.CheckTable source order) outcome shown = ChecksTable source order outcome × (shown ≡ None)
   Does (task.Import token progress) outcome shown = ImportsFile token outcome × SaysHowFar progress token outcome
       × (shown ≡ None)
   Does task.Export outcome shown = Ended outcome Exports × IsUnread × IsQuiet × (shown ≡ None)
   Does (task.ExportPublic today) outcome shown = Ended outcome (Publishes today) × IsUnread × IsQuiet × (shown ≡ None)
+  Does task.ExportPlain outcome shown = Ended outcome ExportsPlain × IsUnread × (shown ≡ None)
+  Does (task.ExportPublicPlain today) outcome shown = Ended outcome (PublishesPlain today) × IsUnread × (shown ≡ None)
   Does (task.Sheet sheet today) outcome shown = Ended outcome (PrintsSheet sheet today) × IsUnread × IsQuiet
       × (shown ≡ None)
   Does (task.Library today) outcome shown =
@@ -271,7 +347,7 @@ module _ {S R W F : Type 0} (g : Ghosts S) (reader : read.Ghosts R) (reads : dev
   MustReopen outcome shown = (outcome ≡ Err (placeless_text Reopen)) × (shown ≡ None) × (b ≡ a)
 
 -- a task was done, unless the archive was lost before, and then its status was made of its outcome, with the line of a
--- refusal on the faults
+-- refusal on the faults, where they have none of it yet
 module _ {S R W F : Type 0} (g : Ghosts S) (reader : read.Ghosts R) (reads : device.Ghosts R) (writer : write.Ghosts W)
     (writes : device.Ghosts W) (faulter : write.Ghosts F) (fails : device.Ghosts F) where
   pub record Ends (task : Task) (a b : Moment g R W F) (status : ℕ) (shown : Option Content) : Type 0 where
@@ -281,4 +357,4 @@ module _ {S R W F : Type 0} (g : Ghosts S) (reader : read.Ghosts R) (reads : dev
         (record { archive = b.archive; input = b.input; output = b.output; faults = between }) task outcome shown
     pub reopen : a.archive.is_lost ≡ true → MustReopen g reader reads writer writes faulter fails a
         (record { archive = b.archive; input = b.input; output = b.output; faults = between }) outcome shown
-    pub finishes : Finishes faulter.contents fails.failed outcome status between b.faults
+    pub finishes : Concludes faulter.contents fails.failed task outcome status between b.faults

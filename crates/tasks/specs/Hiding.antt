@@ -11,6 +11,7 @@ use Rattle.record_text.specs.declared.refusal.RefusalKind.{RefusalKind}
 use Rattle.record_text.specs.declared.refusal.RefusalKind.TheVariants.{OutOfMemory, WriteFailed}
 use Rattle.store.specs.Archives.{HasArchive}
 use Rattle.store_tables.specs.Looking.{IsFailure}
+use Rattle.tasks.specs.Faults.{IsReported}
 use Rattle.tasks.specs.Moments.{Moment}
 use Rattle.tasks.specs.Status.{Outcome}
 use Rattle.tasks.specs.declared.task.Task.{Task}
@@ -25,6 +26,12 @@ pub record DifferInHidden (a b : Content) (today : ℤ) : Type 0 where
 -- two writers, the first from `x` to `y` and the second from `v` to `w`, got the same text
 abbrev pub GotTheSame : Option (List ℕ) → Option (List ℕ) → Option (List ℕ) → Option (List ℕ) → Type 0
 GotTheSame x y v w = (text : List ℕ) × Appends x y text × Appends v w text
+
+-- two streams of faults, the first from `k` to `l` and the second from `m` to `n`, got the same text, whole but where
+-- they failed, by their counts. `said` is what such a stream has got, `failed` how often it failed
+abbrev pub ReportTheSame : {F : Type 0} → (F → Option (List ℕ)) → (F → ℕ) → F → F → F → F → Type 0
+ReportTheSame said failed k l m n =
+    (text : List ℕ) × IsReported said failed k l text × IsReported said failed m n text
 
 -- memory was refused, the database failed, or the writer did
 abbrev pub HasFailed : RefusalKind → Type 0

@@ -1,3 +1,4 @@
+pub mod Checking
 pub mod Counts
 pub mod Ends
 pub mod Faults
@@ -5,4 +6,5 @@ pub mod Hiding
 pub mod Moments
 pub mod Parts
 pub mod Status
+pub mod Stopping
 pub mod Texts

@@ -8,14 +8,17 @@
 #![tactic(auto)]
 
 mod auditing;
+mod checking;
 mod entering;
 mod faults;
 mod importing;
 pub mod laws;
 mod libraries;
 mod perform;
+mod plain_exporting;
 mod progress;
 mod status;
+mod stopping;
 mod task;
 
 pub use faults::FaultStream;

@@ -4,13 +4,16 @@ ghost use Rattle.std.specs.Prelude.{◌≡◌, false, true};
 ghost use Rattle.tasks.specs.Ends.{Does, Ends, MustReopen};
 
 use crate::auditing::audit_archive;
+use crate::checking::check_table;
 use crate::entering::enter_batch;
 use crate::faults::FaultStream;
 use crate::importing::import_file;
 use crate::libraries::show_library;
-use crate::status::{placeless, plain, status_of};
+use crate::plain_exporting::{export_plain, export_public_plain};
+use crate::status::{placeless, plain};
+use crate::stopping::{conclude, reporting_of, stopped};
 use crate::task::Task;
-use archive_input::apply;
+use archive_input::{apply, apply_until_refused};
 use archive_lists::{write_list, write_shown};
 use archive_output::{write_archive, write_days, write_public, write_sheet};
 use devices::Device;
@@ -26,7 +29,9 @@ use store::Archive;
 /// faults. Of `Task::Library` also what may be shown. `clock` says when a line of progress is due.
 ///
 /// Results go to `output`. On `faults` stands, before that line, what is wrong with each row of `Task::Apply` that is
-/// refused, what `Task::Audit` finds wrong, and with `progress` how far an import is.
+/// refused, what `Task::Audit` finds wrong, what a plain export leaves out, and with `progress` how far an import is.
+/// Where `Task::ApplyUntilRefused` ends at a row that is refused, the status is 1 after the line of what is wrong with
+/// it; and so it is where `Task::CheckTable` has printed what is wrong with a row, or why the input is no table.
 ///
 /// 81: a call or a look answered 80 before, and the archive has to be opened again; nothing is read, written or
 /// changed. While an import is open, tasks that read serve, and requests are refused with 84. Else refusals are those
@@ -45,12 +50,13 @@ pub fn perform_task<S: Alter, C: Clock, R: Read + Device, W: Write + Device, F: 
         (record { archive = archive.new; input = input.new; output = output.new; faults = faults.new })
         result.0 result.1 }
 {
+    let reporting = reporting_of(&task);
     let (outcome, shown) = try_task(alloc, clock, archive, task, input, output, faults);
-    (status_of(outcome, faults), shown)
+    (conclude(reporting, outcome, faults), shown)
 }
 
 /// Tries a task: on an archive that is lost it is refused with 81, and nothing is done.
-fn try_task<S: Alter, C: Clock, R: Read + Device, W: Write + Device, F: Write + Device>(
+fn try_task<S: Alter, C: Clock, R: Read + Device, W: Write + Device, F: FaultStream>(
     alloc: Global,
     clock: &C,
     archive: &mut Archive<S>,
@@ -75,7 +81,7 @@ fn try_task<S: Alter, C: Clock, R: Read + Device, W: Write + Device, F: Write + 
 }
 
 /// Does a task, and gives its outcome, with what may be shown where that was asked for.
-fn do_task<S: Alter, C: Clock, R: Read + Device, W: Write + Device, F: Write + Device>(
+fn do_task<S: Alter, C: Clock, R: Read + Device, W: Write + Device, F: FaultStream>(
     alloc: Global,
     clock: &C,
     archive: &mut Archive<S>,
@@ -92,8 +98,16 @@ fn do_task<S: Alter, C: Clock, R: Read + Device, W: Write + Device, F: Write + D
 {
     match task {
         Task::Apply => (plain(apply(alloc, archive, input, output, faults)), None),
+        Task::ApplyUntilRefused => (
+            stopped(apply_until_refused(alloc, archive, input, output, faults)),
+            None,
+        ),
         Task::Entries { token, source } => (
             enter_batch(alloc, archive, token, source, input, output),
+            None,
+        ),
+        Task::CheckTable { source, order } => (
+            check_table(alloc, archive, source, order, input, output, faults),
             None,
         ),
         Task::Import { token, progress } => (
@@ -104,6 +118,11 @@ fn do_task<S: Alter, C: Clock, R: Read + Device, W: Write + Device, F: Write + D
         ),
         Task::Export => (plain(write_archive(alloc, archive, output)), None),
         Task::ExportPublic { today } => (plain(write_public(alloc, archive, today, output)), None),
+        Task::ExportPlain => (plain(export_plain(alloc, archive, output, faults)), None),
+        Task::ExportPublicPlain { today } => (
+            plain(export_public_plain(alloc, archive, today, output, faults)),
+            None,
+        ),
         Task::Sheet { sheet, today } => (
             plain(write_sheet(alloc, archive, &sheet, today, output)),
             None,

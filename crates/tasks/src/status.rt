@@ -12,7 +12,7 @@ use record_text::{Refusal, RefusalKind, RefusalText, Unit};
 const DONE: u8 = 0;
 
 /// It was refused.
-const REFUSED: u8 = 1;
+pub(crate) const REFUSED: u8 = 1;
 
 /// More bytes than the longest line of a refusal has: that of 25 at line 4,294,967,295 has 54.
 const LINE: usize = 64;

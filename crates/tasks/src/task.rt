@@ -1,33 +1,69 @@
 //! What may be asked of an archive that is open.
 
+use archive_lists::Listed;
 use archive_output::Sheet;
+use page_entries::DateOrder;
 use receipts::Token;
-use searching::Listing;
 
 /// What is asked of an archive that is open. Days are counted from 1970-01-01, day 0.
 #[derive(Debug, Drop)]
 pub enum Task {
     /// The requests of the rows of the input, with their answers on the output.
     Apply,
+    /// The same of the rows up to the first that is refused.
+    ApplyUntilRefused,
     /// The rows of the input as register entries of a source, under a token, all of them or none.
-    Entries { token: Token, source: u32 },
+    Entries {
+        token: Token,
+        source: u32,
+    },
+    /// What is wrong or doubtful in the table of the input, whose rows would be register entries of a source, on the
+    /// output. Dates of three numbers are in that order, where one is given.
+    CheckTable {
+        source: u32,
+        order: Option<DateOrder>,
+    },
     /// The GEDCOM file of the input, whole or not at all, under a token. With `progress` the faults get how far it is.
-    Import { token: Token, progress: bool },
+    Import {
+        token: Token,
+        progress: bool,
+    },
     /// The whole archive as a GEDCOM file, on the output.
     Export,
     /// What may be shown of the archive on a day as a GEDCOM file, on the output.
-    ExportPublic { today: i32 },
+    ExportPublic {
+        today: i32,
+    },
+    /// The whole archive without tags of our own as a GEDCOM file, on the output; what is left out, on the faults.
+    ExportPlain,
+    /// The same of what may be shown of the archive on a day.
+    ExportPublicPlain {
+        today: i32,
+    },
     /// A sheet of what may be shown of the archive on a day, on the output.
-    Sheet { sheet: Sheet, today: i32 },
+    Sheet {
+        sheet: Sheet,
+        today: i32,
+    },
     /// What may be shown of the archive on a day, with its index, as a reading room has it.
-    Library { today: i32 },
+    Library {
+        today: i32,
+    },
     /// Whether the archive is sound, and how many records it has, on the output.
     Audit,
     /// The events and register entries whose date may mean a day from the first to the last, on the output: their
     /// numbers, and with `words` what each is.
-    Days { first: i32, last: i32, words: bool },
-    /// The lines of a listing, on the output.
-    List { listing: Listing },
+    Days {
+        first: i32,
+        last: i32,
+        words: bool,
+    },
+    /// The lines of what is listed, on the output.
+    List {
+        listing: Listed,
+    },
     /// The records of these numbers, each whole, on the output.
-    Show { numbers: Vec<u32> },
+    Show {
+        numbers: Vec<u32>,
+    },
 }

@@ -1,13 +1,13 @@
 use Rattle.std.proofs.Common.{ℕ, List, subst}
-use Rattle.std.specs.Prelude.{Option, IfErr, OnOk}
-use Rattle.archive_input.specs.RowByRow.{AppliedInTurn, EndedInTurn}
+use Rattle.std.specs.Prelude.{Option, IfErr, IfOk}
+use Rattle.archive_input.specs.Stopping.{AppliedAs, EndedAs}
 use Rattle.archive_input.proofs.applying.apply_input.Goals as goal
 
 -- what the reader of rows has to read are the bytes of the input without a byte order mark
 pub returns-clause-applied : goal.returns-clause-applied
 returns-clause-applied g c =
-    subst (λ (known : Option (List ℕ)). OnOk c.apply_rows.result
-    (AppliedInTurn g.S.Store g.W.Write.contents g.F.Write.contents known
+    subst (λ (known : Option (List ℕ)). IfOk c.apply_rows.result
+    (λ stop. AppliedAs g.S.Store g.W.Write.contents g.F.Write.contents c.args.stops stop known
     (record { archive = c.args.archive.now; output = c.args.output.now; faults = c.args.faults.now })
     (record {
       archive = c.apply_rows.new.archive;
@@ -19,7 +19,7 @@ returns-clause-applied g c =
 pub returns-clause-ended : goal.returns-clause-ended
 returns-clause-ended g c =
     subst (λ (known : Option (List ℕ)). IfErr c.apply_rows.result
-    (λ kind. EndedInTurn g.S.Store g.W.Write.contents g.F.Write.contents kind known
+    (λ kind. EndedAs g.S.Store g.W.Write.contents g.F.Write.contents c.args.stops kind known
     (record { archive = c.args.archive.now; output = c.args.output.now; faults = c.args.faults.now })
     (record {
       archive = c.apply_rows.new.archive;

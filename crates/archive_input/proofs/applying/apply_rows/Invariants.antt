@@ -1,8 +1,8 @@
 use Rattle.std.proofs.Common.{◌≡◌, true}
 use Rattle.csv.specs.Reading.{Ready, default_config, is_flexible, reader_config, reader_state, reader_trim, source_of}
 use Rattle.csv.specs.declared.reader.Trim.TheVariants as trim
-use Rattle.archive_input.proofs.InTurn.{InTurn}
 use Rattle.archive_input.proofs.OnTheWay.{OnTheWayWith}
+use Rattle.archive_input.proofs.Stopped.{TurnSoFar}
 use Rattle.archive_input.proofs.applying.apply_rows.Given as goal
 
 abbrev pub invariant-rows : goal.invariant-rows
@@ -14,7 +14,7 @@ invariant-rows g l = record {
   way : OnTheWayWith g.S.Store (source_of g.R.Read.remaining l.fn.rows) (source_of g.R.Read.remaining l.rows)
       (reader_state l.rows)
       (g.W.Write.contents l.fn.output) (g.W.Write.contents l.output) l.fn.archive l.archive
-      (InTurn g.S.Store g.W.Write.contents g.F.Write.contents l.number
+      (TurnSoFar g.S.Store g.W.Write.contents g.F.Write.contents l.stops l.number
       (record { archive = l.fn.archive; output = l.fn.output; faults = l.fn.faults })
       (record { archive = l.archive; output = l.output; faults = l.faults }));
 }

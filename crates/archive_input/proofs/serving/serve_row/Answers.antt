@@ -13,6 +13,7 @@ returns-in-Ok-None-clause-served g c =
         answered = h.4;
         faulted = not_refused _ _ _ (sym c.in-Ok-None.field-0-is ∙ h.5);
       },
+      sym c.in-Ok-None.field-0-is ∙ h.5,
     )
 
 pub returns-in-Ok-Some-clause-served : goal.returns-in-Ok-Some-clause-served
@@ -26,4 +27,5 @@ returns-in-Ok-Some-clause-served g c =
         answered = h.4;
         faulted = told_as _ _ _ _ _ (sym c.in-Ok-Some.field-0-is ∙ h.5) c.tell_fault.ensures;
       },
+      sym c.in-Ok-Some.field-0-is ∙ h.5,
     )

@@ -19,7 +19,7 @@ returns-clause-ended g c =
     let last = c.list_text-text.new.view in
     let before = g.W.Write.contents c.args.writer.now in
     let after = g.W.Write.contents c.write_found.new.writer in
-    let right : Content → Option (List ℕ) = λ k. Some (texts.list_text c.args.listing.now k) in
+    let right : Content → Option (List ℕ) = λ k. Some (texts.list_text c.args.listed.now k) in
     moved g.S.Store was.conn first.conn last.conn c.put_back.new.self.conn c.set_aside-import.ensures.conn
     c.put_back.ensures.conn (λ old new. OnRead old new (λ of. EndsWriting c.write_found.result before after (right of)))
     (ended_by string_bytes c.list_text-text.result right (state g.S.Store first.conn) (state g.S.Store last.conn)
@@ -38,7 +38,7 @@ returns-clause-reads g c =
     let first = c.set_aside-import.new.self in
     let last = c.list_text-text.new.view in
     let new = c.put_back.new.self in
-    let right : Content → Option (List ℕ) = λ k. Some (texts.list_text c.args.listing.now k) in
+    let right : Content → Option (List ℕ) = λ k. Some (texts.list_text c.args.listed.now k) in
     let same = c.put_back.ensures.back ∙ c.set_aside-import.ensures.aside in
     let stays = aside_stays g.S.Store was.conn first.conn last.conn new.conn last.is_lost new.is_lost
     c.set_aside-import.ensures.conn c.put_back.ensures.conn c.put_back.ensures.lost

@@ -1,8 +1,8 @@
-use Rattle.std.proofs.Common.{◌≡◌, [], refl, true}
+use Rattle.std.proofs.Common.{◌≡◌, [], false, refl, true}
 use Rattle.clap.specs.Words.{Text, fault_of, subcommand_of}
 use Rattle.clap.proofs.OnLiterals.{clap_on_literals}
 use Rattle.jiff_fmt.proofs.OnLiterals.{jiff_fmt_on_literals}
-use Rattle.command_line.specs.Asking.{is_fit, is_public}
+use Rattle.command_line.specs.Asking.{is_fit, is_plain, is_public}
 use Rattle.command_line.specs.Commands.{program}
 use Rattle.command_line.specs.Examples.{public_words}
 use Rattle.command_line.proofs.laws.a_public_export_is_taken.Goals as goal
@@ -19,8 +19,15 @@ has_public : (name : Text) → is_public (subcommand_of program (public_words na
 unfolding clap_on_literals
 has_public name = refl
 
+not_plain : (name : Text) → is_plain (subcommand_of program (public_words name)) ≡ false
+unfolding clap_on_literals
+not_plain name = refl
+
 pub returns-clause-taken : goal.returns-clause-taken
 returns-clause-taken c = λ name. (no_fault name, fits name)
 
 pub returns-clause-public : goal.returns-clause-public
 returns-clause-public c = has_public
+
+pub returns-clause-plain : goal.returns-clause-plain
+returns-clause-plain c = not_plain

@@ -5,18 +5,14 @@ pub returns-in-init-clause-words : goal.returns-in-init-clause-words
 returns-in-init-clause-words c = (c.word_of.ensures, c.word_of-in-init.ensures)
 
 pub returns-in-apply-clause-words : goal.returns-in-apply-clause-words
-returns-in-apply-clause-words c = c.word_of-in-apply.ensures
-
-pub returns-in-entries-clause-words : goal.returns-in-entries-clause-words
-returns-in-entries-clause-words c = (
-  c.word_of-in-entries.ensures,
-  rw (c.number_of.ensures, c.word_of-in-entries-2.ensures) refl,
-  c.word_of-in-entries-3.ensures,
+returns-in-apply-clause-words c = (
+  c.word_of-in-apply.ensures,
+  rw (c.is_yes.ensures, c.word_of-in-apply-2.ensures) refl,
 )
 
 pub returns-in-import-clause-words : goal.returns-in-import-clause-words
 returns-in-import-clause-words c = (
   c.word_of-in-import.ensures,
   c.word_of-in-import-2.ensures,
-  rw (c.is_yes.ensures, c.word_of-in-import-3.ensures) refl,
+  rw (c.is_yes-in-import.ensures, c.word_of-in-import-3.ensures) refl,
 )

@@ -38,7 +38,7 @@ use Rattle.command_line.proofs.Fitting.{asks_if}
 use Rattle.command_line.proofs.Taken.{taken_names, name_of_rows}
 use Rattle.command_line.proofs.reading.read_words.Goals as goal
 
--- where no kind may come, memory is wanting
+-- where no kind may come, out of memory
 wanting : (k : ErrorKind) (kinds : Kinds) → kinds ≡ [] → (k ≡ kind.OutOfMemory) ⊎ IsAmong k kinds → k ≡ kind.OutOfMemory
 wanting k kinds none (inl h) = h
 wanting k kinds none (inr h) = absurd (subst (IsAmong k) none h)

@@ -12,7 +12,7 @@ use Rattle.archive_files.specs.declared.left.Left.TheVariants.{Untouched}
 use Rattle.record_text.specs.declared.refusal.RefusalText.{RefusalText}
 use Rattle.tasks.specs.Status.{Finishes}
 use Rattle.parish.specs.Doing.{tells}
-use Rattle.parish.specs.Ends.{AreOf, AreOfToldImport}
+use Rattle.parish.specs.Ends.{AreOf, AreOfPlainExport, AreOfToldImport}
 use Rattle.parish.proofs.Ending.{does_at_most_1, does_quietly}
 use Rattle.parish.proofs.Untaken.{untaken}
 use Rattle.parish.proofs.command.command.Goals as goal
@@ -34,27 +34,32 @@ untold true words of is no_import = absurd (no_import (of, sym is))
 -- what is asked for says nothing where it is done, but for those three
 quiet : (a : Asked) (words : List (List ℕ)) → IfSome (name_of a) (λ n. IsTaken words × (command_named words ≡ Some n))
     → HasWords (subcommand_of program words) a → ¬ (AreOf words (codes "apply")) → ¬ (AreOf words (codes "convert"))
-    → ¬ (AreOfToldImport words)
+    → ¬ (AreOfToldImport words) → ¬ (AreOfPlainExport words)
     → tells a ≡ false
-quiet (asked.Apply file) words of has no_apply no_convert no_import = absurd (no_apply of)
-quiet (asked.Import file token progress) words of has no_apply no_convert no_import =
+quiet (asked.Apply file stops) words of has no_apply no_convert no_import no_plain = absurd (no_apply of)
+quiet (asked.Import file token progress) words of has no_apply no_convert no_import no_plain =
     untold progress words of has.2 no_import
-quiet (asked.Convert from) words of has no_apply no_convert no_import = absurd (no_convert of)
-quiet asked.Norm words of has no_apply no_convert no_import = refl
-quiet asked.Check words of has no_apply no_convert no_import = refl
-quiet asked.CheckAll words of has no_apply no_convert no_import = refl
-quiet (asked.Init file society) words of has no_apply no_convert no_import = refl
-quiet (asked.Entries file source token) words of has no_apply no_convert no_import = refl
-quiet (asked.Export file) words of has no_apply no_convert no_import = refl
-quiet (asked.ExportPublic file today) words of has no_apply no_convert no_import = refl
-quiet (asked.Sheet file which number generations today) words of has no_apply no_convert no_import = refl
-quiet (asked.Serve file port count today) words of has no_apply no_convert no_import = refl
-quiet (asked.Audit file) words of has no_apply no_convert no_import = refl
-quiet (asked.Days file first last told) words of has no_apply no_convert no_import = refl
-quiet (asked.List file which source after limit) words of has no_apply no_convert no_import = refl
-quiet (asked.Find file names which limit) words of has no_apply no_convert no_import = refl
-quiet (asked.Show file numbers) words of has no_apply no_convert no_import = refl
-quiet (asked.Text text) words of has no_apply no_convert no_import = refl
+quiet (asked.Convert from) words of has no_apply no_convert no_import no_plain = absurd (no_convert of)
+quiet asked.Norm words of has no_apply no_convert no_import no_plain = refl
+quiet asked.Check words of has no_apply no_convert no_import no_plain = refl
+quiet asked.CheckAll words of has no_apply no_convert no_import no_plain = refl
+quiet (asked.Init file society) words of has no_apply no_convert no_import no_plain = refl
+quiet (asked.Entries file source token) words of has no_apply no_convert no_import no_plain = refl
+quiet (asked.CheckTable file source order) words of has no_apply no_convert no_import no_plain = refl
+quiet (asked.Export file) words of has no_apply no_convert no_import no_plain = refl
+quiet (asked.ExportPublic file today) words of has no_apply no_convert no_import no_plain = refl
+quiet (asked.ExportPlain file) words of has no_apply no_convert no_import no_plain = absurd (no_plain (of, has.3))
+quiet (asked.ExportPublicPlain file today) words of has no_apply no_convert no_import no_plain =
+    absurd (no_plain (of, has.3))
+quiet (asked.Sheet file which number generations today) words of has no_apply no_convert no_import no_plain = refl
+quiet (asked.Serve file port count today) words of has no_apply no_convert no_import no_plain = refl
+quiet (asked.Audit file) words of has no_apply no_convert no_import no_plain = refl
+quiet (asked.Days file first last told) words of has no_apply no_convert no_import no_plain = refl
+quiet (asked.List file which source after limit) words of has no_apply no_convert no_import no_plain = refl
+quiet (asked.Find file names which limit) words of has no_apply no_convert no_import no_plain = refl
+quiet (asked.Show file numbers) words of has no_apply no_convert no_import no_plain = refl
+quiet (asked.Review file) words of has no_apply no_convert no_import no_plain = refl
+quiet (asked.Text text) words of has no_apply no_convert no_import no_plain = refl
 
 pub returns-in-Ok-clause-status : goal.returns-in-Ok-clause-status
 returns-in-Ok-clause-status g c =
@@ -71,12 +76,12 @@ returns-in-Ok-clause-words g c = λ two.
     absurd (omega (arith, one, two))
 
 pub returns-in-Ok-clause-done : goal.returns-in-Ok-clause-done
-returns-in-Ok-clause-done g c = λ zero no_apply no_convert no_import.
+returns-in-Ok-clause-done g c = λ zero no_apply no_convert no_import no_plain.
     does_quietly g.R.Read g.R.Device g.W.Write g.W.Device g.F.Write g.F.Device
     (image_at g.S.Start) _ _ _ _ _ c.in-Ok.asked
     c.work.ensures
     (quiet c.in-Ok.asked (map string_bytes c.args.words.now) c.in-Ok.ensures.asked.0 c.in-Ok.ensures.asked.1
-    no_apply no_convert no_import) zero
+    no_apply no_convert no_import no_plain) zero
 
 pub returns-in-Ok-clause-does : goal.returns-in-Ok-clause-does
 returns-in-Ok-clause-does g c = λ taken.
@@ -97,13 +102,13 @@ returns-in-Ok-clause-carries g c = λ bytes seen unseen ended after s as_seen fi
 )
 
 pub returns-in-Err-Words-clause-others : goal.returns-in-Err-Words-clause-others
-returns-in-Err-Words-clause-others g c = λ none. (refl, (tt, refl), inr (refl, inl c.refuse_words.ensures))
+returns-in-Err-Words-clause-others g c = λ none. (refl, (tt, refl), inr (refl, inl c.refuse_words.ensures.status))
 
 pub returns-in-Err-Words-clause-carries : goal.returns-in-Err-Words-clause-carries
 returns-in-Err-Words-clause-carries g c = λ bytes seen unseen ended after s as_seen finds.
     c.what_is_asked_for_loses_nothing.ensures.refused (image_at g.S.Start) after (map string_bytes c.args.words.now)
     c.refuse_words.result _ _ (Untouched c.args.start) bytes seen unseen ended s as_seen finds tt refl
-    (λ zero. omega (arith, zero, c.refuse_words.ensures))
+    (λ zero. omega (arith, zero, c.refuse_words.ensures.status))
     (λ taken two. no_want _ tt (sym c.in-Err-Words.field-0-is ∙ c.in-Err-Words.ensures.taken taken))
 
 pub returns-in-Err-OutOfMemory-clause-carries : goal.returns-in-Err-OutOfMemory-clause-carries

@@ -6,6 +6,20 @@ use Rattle.tasks.specs.declared.task.Task.TheVariants as task
 use Rattle.parish.proofs.Same.{between, in_task, library_on, on_day}
 use Rattle.parish.proofs.command.work.Goals as goal
 
+pub returns-in-Apply : goal.returns-in-Apply
+returns-in-Apply g c =
+    rw c.in-Apply.is (
+    in_task g.R.Read g.R.Device g.W.Write g.W.Device g.F.Write g.F.Device (image_at g.S.Start) _ _ _ _ _
+    c.apply_task-task.result _ c.apply_task-task.ensures c.do_task.ensures
+    )
+
+pub returns-in-CheckTable : goal.returns-in-CheckTable
+returns-in-CheckTable g c =
+    rw c.in-CheckTable.is (
+    in_task g.R.Read g.R.Device g.W.Write g.W.Device g.F.Write g.F.Device (image_at g.S.Start) _ _ _ _ _
+    c.table_task-task.result _ c.table_task-task.ensures c.do_task-in-CheckTable.ensures
+    )
+
 pub returns-in-ExportPublic : goal.returns-in-ExportPublic
 returns-in-ExportPublic g c =
     let fits : SFits w32 c.in-ExportPublic.today = search rules in
@@ -13,6 +27,16 @@ returns-in-ExportPublic g c =
     on_day g.R.Read g.R.Device g.W.Write g.W.Device g.F.Write g.F.Device
     (image_at g.S.Start) _ _ _ _ _ task.ExportPublic _
     c.in-ExportPublic.today (to_z-of_z w32 c.in-ExportPublic.today fits) c.do_task-in-ExportPublic.ensures
+    )
+
+pub returns-in-ExportPublicPlain : goal.returns-in-ExportPublicPlain
+returns-in-ExportPublicPlain g c =
+    let fits : SFits w32 c.in-ExportPublicPlain.today = search rules in
+    rw c.in-ExportPublicPlain.is (
+    on_day g.R.Read g.R.Device g.W.Write g.W.Device g.F.Write g.F.Device
+    (image_at g.S.Start) _ _ _ _ _ task.ExportPublicPlain _
+    c.in-ExportPublicPlain.today (to_z-of_z w32 c.in-ExportPublicPlain.today fits)
+    c.do_task-in-ExportPublicPlain.ensures
     )
 
 pub returns-in-Sheet : goal.returns-in-Sheet

@@ -5,7 +5,7 @@ use Rattle.archive_lists.specs.Ends.{EndsWriting, OnRead}
 use Rattle.archive_lists.specs.Texts.{shown_text}
 use Rattle.tasks.proofs.Aloud.{says_far}
 use Rattle.tasks.proofs.Blamed.{blamed_by}
-use Rattle.tasks.proofs.Days.{lists_on, prints_on, publishes_on, shelves_on}
+use Rattle.tasks.proofs.Days.{lists_on, prints_on, publishes_on, publishes_plain_on, shelves_on}
 use Rattle.tasks.proofs.perform.do_task.Goals as goal
 
 pub returns-in-Apply : goal.returns-in-Apply
@@ -24,10 +24,29 @@ returns-in-Apply g c =
       refl,
     )
 
+pub returns-in-ApplyUntilRefused : goal.returns-in-ApplyUntilRefused
+returns-in-ApplyUntilRefused g c =
+    let did = c.apply_until_refused.ensures in
+    rw c.in-ApplyUntilRefused.is (
+      (
+        c.apply_until_refused.result,
+        c.stopped.ensures,
+        record {
+          applied = did.applied;
+          ended = did.ended;
+          blamed = blamed_by c.apply_until_refused.result _ _ did.read_failed did.write_failed;
+        },
+      ),
+      refl,
+    )
+
 pub returns-in-Entries : goal.returns-in-Entries
 returns-in-Entries g c =
     let did = c.enter_batch.ensures in
     rw c.in-Entries.is (record { entered = did.entered; refused = did.refused }, refl, refl)
+
+pub returns-in-CheckTable : goal.returns-in-CheckTable
+returns-in-CheckTable g c = rw c.in-CheckTable.is (c.check_table.ensures, refl)
 
 pub returns-in-Import : goal.returns-in-Import
 returns-in-Import g c =
@@ -84,6 +103,42 @@ returns-in-ExportPublic g c =
             (record { stays = did.reads; lost = did.lost }),
       ),
       refl,
+      refl,
+      refl,
+    )
+
+pub returns-in-ExportPlain : goal.returns-in-ExportPlain
+returns-in-ExportPlain g c =
+    let did = c.export_plain.ensures in
+    rw c.in-ExportPlain.is (
+      (
+        c.export_plain.result,
+        c.plain-in-ExportPlain.ensures,
+        record {
+          written = did.written;
+          quiet = did.quiet;
+          begun = did.begun;
+          unread = did.unread;
+          blamed = did.writer;
+          looks = record { stays = did.reads; lost = did.lost };
+        },
+      ),
+      refl,
+      refl,
+    )
+
+pub returns-in-ExportPublicPlain : goal.returns-in-ExportPublicPlain
+returns-in-ExportPublicPlain g c =
+    let did = c.export_public_plain.ensures in
+    let fits : SFits w32 c.in-ExportPublicPlain.today = search rules in
+    rw c.in-ExportPublicPlain.is (
+      (
+        c.export_public_plain.result,
+        c.plain-in-ExportPublicPlain.ensures,
+        publishes_plain_on _ _ _ _ _ _ _ _ _ _ c.in-ExportPublicPlain.today c.export_public_plain.result
+            (to_z-of_z w32 c.in-ExportPublicPlain.today fits) did.written did.quiet did.begun did.unread did.writer
+            (record { stays = did.reads; lost = did.lost }),
+      ),
       refl,
       refl,
     )

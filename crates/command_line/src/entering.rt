@@ -1,0 +1,62 @@
+//! Register entries: a batch under a token, or a table that is only looked over.
+
+ghost use Rattle.std.specs.Prelude.{◌≡◌, IfOk, MatchResult, Some, ⊤, codes, option_map, true};
+ghost use Rattle.clap.specs.Words.{found_of, rows_of};
+ghost use Rattle.command_line.specs.Asking.{AsksForWork, HasWords, IsMeant, is_fit, is_meant, name_of};
+ghost use Rattle.command_line.specs.Meanings.{order_named};
+ghost use Rattle.command_line.specs.declared.tasks.Refused.TheVariants.{OutOfMemory};
+
+use crate::refusing::{no_table, no_token, no_value, unchecked};
+use crate::tasks::{Asked, OrderName, Refused};
+use crate::words::{given_word, is_yes, number_of, order_named, word_of};
+use clap::ArgMatches;
+use std::alloc::Global;
+
+/// `entries`: a batch under a token, or with `--table` and `--check` a table that is looked over. Refused where a batch
+/// has no token or a word of tables, and where a table is not checked or the order of its dates is none.
+pub(crate) fn entries_asked<'a>(alloc: Global, given: &ArgMatches<'a>) -> Result<Asked<'a>, Refused>
+    ensures asked { IfOk result (λ a. name_of a ≡ Some (codes "entries")) }
+    ensures words { IfOk result (HasWords (Some (codes "entries", rows_of (found_of given.now)))) }
+    ensures taken { is_fit (Some (codes "entries", rows_of (found_of given.now))) ≡ true → AsksForWork result }
+{
+    let is_checked = is_yes(word_of(given, "check"));
+    let dates = given_word(given, "dates");
+    if is_yes(word_of(given, "table")) {
+        if !is_checked {
+            return Err(unchecked(alloc));
+        }
+        let order = order_given(alloc, dates)?;
+        return Ok(Asked::CheckTable {
+            file: word_of(given, "FILE"),
+            source: number_of(word_of(given, "source")),
+            order,
+        });
+    }
+    if is_checked {
+        return Err(no_table(alloc, "--check"));
+    }
+    match (given_word(given, "token"), dates) {
+        (Some(token), None) => Ok(Asked::Entries {
+            file: word_of(given, "FILE"),
+            source: number_of(word_of(given, "source")),
+            token,
+        }),
+        (_, Some(_)) => Err(no_table(alloc, "--dates <ORDER>")),
+        (None, None) => Err(no_token(alloc)),
+    }
+}
+
+/// The order of dates of an option. Refused where its word is none.
+fn order_given(alloc: Global, word: Option<&str>) -> Result<Option<OrderName>, Refused>
+    ensures order { IfOk result (IsMeant order_named (option_map (λ w. w.now) word.entry)) }
+    ensures taken { is_meant order_named (option_map (λ w. w.now) word.entry) ≡ true
+        → MatchResult result (λ _. ⊤) (λ refused. refused ≡ OutOfMemory) }
+{
+    let Some(word) = word else {
+        return Ok(None);
+    };
+    match order_named(word) {
+        Some(order) => Ok(Some(order)),
+        None => Err(no_value(alloc, word, "--dates <ORDER>", "dmy, mdy")),
+    }
+}

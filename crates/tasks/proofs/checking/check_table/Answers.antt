@@ -1,0 +1,28 @@
+use Rattle.std.proofs.Common.{ℕ, List, inr, subst}
+use Rattle.sqlite.specs.Held.{state}
+use Rattle.archive_lists.specs.Checks.{EndsChecking}
+use Rattle.archive_lists.specs.Ends.{OnRead}
+use Rattle.page_checks.specs.Page.{page_check}
+use Rattle.tasks.proofs.checking.check_table.Goals as goal
+
+pub returns-in-Ok : goal.returns-in-Ok
+returns-in-Ok g c =
+    let did = c.write_check-found.ensures in
+    let ended = subst (λ (bs : List ℕ). OnRead (state g.S.Store c.args.archive.now.conn)
+    (state g.S.Store c.write_check-found.new.archive.conn) (λ k. EndsChecking c.write_check-found.result
+    (g.W.Write.contents c.args.output.now) (g.W.Write.contents c.write_check-found.new.writer)
+    (page_check k c.args.source c.args.order bs))) c.deref.ensures.value did.ended in
+    inr (
+      c.in-Ok.bytes.items,
+      c.in-Ok.ensures.bytes,
+      record {
+        found = c.write_check-found.result;
+        is = c.conclude_check.ensures.outcome;
+        ended = ended;
+        said = c.conclude_check.ensures.said;
+        unread = did.unread;
+        blamed = did.writer;
+        stays = did.reads;
+        lost = did.lost;
+      },
+    )
