@@ -13,7 +13,7 @@ use std::mem;
 use store_rows::read_state;
 use store_tables::{check_version, society};
 
-/// The answer to a row. A row that is refused is answered with its refusal alone.
+/// The answer to a row. A row that is refused is answered only with its refusal.
 pub(crate) fn answer_to<S: Alter + Drop>(
     alloc: Global,
     session: &mut Session<S>,

@@ -1,4 +1,4 @@
-//! An import that is staged: opened, written, published, and taken out again, each row in commits of its own.
+//! An import that is staged: opened, written, published, and removed again, each row in commits of its own.
 
 use crate::session::Session;
 use record_text::RefusalKind;

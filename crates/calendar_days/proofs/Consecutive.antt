@@ -290,7 +290,7 @@ pub julian_rule_both_ways : (y : ℤ) (m d : ℕ) → IsReckoned y → 1 ≤ d �
 julian_rule_both_ways y m d r k = julian_floor y (unsigned_abs (y +ℤ pos 10000)) m d (shift y r) k
 
 -- a Republican day is a Gregorian one
--- December alone has 31 days
+-- only December has 31 days
 years_many : (n : ℕ) → 31 * n ≤ days_of_years Gregorian n
 years_many zero = omega arith
 years_many (suc n) =

@@ -4,7 +4,7 @@ use Rattle.calendar_days.specs.declared.calendar.Calendar.{Calendar}
 use Rattle.calendar_days.specs.declared.calendar.Extent.{Extent}
 use Rattle.calendar_days.specs.declared.calendar.CalendarDate.{CalendarDate}
 
--- the calendar of a date, and how much of it is told
+-- the calendar of a date, and how much of it is known
 pub record Told : Type 0 where
   pub calendar : Calendar
   pub extent : Extent

@@ -1,4 +1,4 @@
-//! Dates of a calendar, as far as they are told.
+//! Dates of a calendar, as far as they are known.
 
 ghost use Rattle.std.specs.Prelude.{◌≡◌, IfSome, IsSome};
 ghost use Rattle.calendar_days.specs.Calendars.{IsExtent};
@@ -27,7 +27,7 @@ pub enum Year {
     Double(u16),
 }
 
-/// How much of a date is told.
+/// How much of a date is known.
 #[derive(Clone, Copy, Debug, PartialEq, Eq)]
 pub enum Extent {
     /// `44 B.C.`.
@@ -43,9 +43,9 @@ pub enum Extent {
 /// A date of a calendar, which has that day, month or year.
 #[derive(Clone, Copy, Debug, PartialEq, Eq)]
 pub struct CalendarDate {
-    /// The calendar in which it is told.
+    /// The calendar in which it is given.
     pub calendar: Calendar,
-    /// What is told.
+    /// What is known.
     pub extent: Extent,
     ghost exists: { IsExtent calendar extent } by { IsExtent-prop calendar extent },
 }

@@ -45,7 +45,7 @@ use crate::calendar::{Calendar, CalendarDate, Extent, Year};
 use jiff::civil::Date;
 
 /// The first day of a date, as a number of days from 1970-01-01, day 0, which lies within 5,000,000
-/// of it. Of a double year that is told alone it is the first of the earlier year. Takes no memory.
+/// of it. Of a double year without a month it is the first of the earlier year. Takes no memory.
 ///
 /// Day numbers and double years: docs/FORMATS.md, Dates.
 pub fn first_day(date: &CalendarDate) -> i32
@@ -63,7 +63,7 @@ pub fn first_day(date: &CalendarDate) -> i32
 }
 
 /// The last day of a date, as a number of days from 1970-01-01, day 0, which lies within 5,000,000
-/// of it. Of a double year that is told alone it is the last of the later year. Takes no memory.
+/// of it. Of a double year without a month it is the last of the later year. Takes no memory.
 ///
 /// Day numbers and double years: docs/FORMATS.md, Dates.
 pub fn last_day(date: &CalendarDate) -> i32

@@ -7,9 +7,9 @@
 //!   what a CONC was cut in.
 //!
 //! Callers may rely on:
-//! - nothing is refused but for want of memory, since U+FFFD stands for what the set has not; ASCII stays as it is in
+//! - nothing is refused except out of memory, since U+FFFD stands for what the set has not; ASCII stays as it is in
 //!   each set; each call goes once over what it is given.
-//! - nothing is refused but for want of memory; each unit is looked at a fixed number of times.
+//! - nothing is refused except out of memory; each unit is looked at a fixed number of times.
 #![tactic(auto)]
 
 mod ansel;

@@ -24,14 +24,14 @@ IsExactSlip m (Some (change.Undone n)) = option_map (λ (s : Slip). s.is_undone)
 -- the changes are of what differs, and of nothing else. What is asked of slips, and of what is put back from one, is
 -- asked in a sound archive: elsewhere a slip may be anything
 pub record IsExact (c : Content) (changes : Changes) : Type 0 where
-  -- the numbers that get a record ascend, so that each is there once; those whose records are taken out, too
+  -- the numbers that get a record ascend, so that each is there once; those whose records are removed, too
   pub puts : IsSound c → Ascends (put_numbers changes)
   pub removals : Ascends changes.removals
   -- none gets a record and loses it
   pub apart : EachOf (λ n. list_any (λ m. m == n) (put_numbers changes) ≡ false) changes.removals
   -- no record is put where it is already; a new one is put where a sound archive has none
   pub new : IsSound c → EachOf (λ (p : Numbered). get c.records p.number ≢ Some p.«record») changes.puts
-  -- a record is taken out where one is
+  -- a record is removed where one is
   pub there : EachOf (λ n. get c.records n ≢ None) changes.removals
   pub slip : IsSound c → IsExactSlip c.slips changes.slip
 

@@ -1,4 +1,4 @@
--- Two forests of one text differ in the numbers of their lines alone, however long the text is.
+-- Two forests of one text differ only in the numbers of their lines, however long the text is.
 use Rattle.std.proofs.Common.{
   ◌≡◌,
   ℕ,

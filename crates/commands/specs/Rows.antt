@@ -164,12 +164,12 @@ ReadsEntry row outcome =
     (given : List ℕ → Option GivenDate) × ((words : List ℕ) → Gives words (given words))
     × (outcome ≡ read_entry given row)
 
--- ---- want of memory
+-- ---- out of memory
 abbrev pub is_want : RefusalKind → Bool
 is_want OutOfMemory = true
 is_want _ = false
 
--- an outcome of which P holds; want of memory may come in place of any
+-- an outcome of which P holds; out of memory may come in place of any
 abbrev pub Decided : {A : Type 0} → Result A RefusalKind → (Result A RefusalKind → Type 0) → Type 0
 Decided (Ok a) P = P (Ok a)
 Decided (Err e) P = is_want e ≡ false → P (Err e)

@@ -9,7 +9,7 @@ use crate::rows::row_bytes;
 use std::alloc::{AllocError, Global};
 
 /// The bytes of a batch of entries: `entries,`, the number of the source, LF, and then each row as a row of CSV.
-/// Refused only for want of memory.
+/// Refused only if out of memory.
 pub fn batch_bytes(alloc: Global, source: u32, rows: &[FieldRow]) -> Result<Vec<u8>, AllocError>
     ensures { IfOk result (λ bytes. bytes.items ≡ written (Batch source rows.now)) }
 {
@@ -23,7 +23,7 @@ pub fn batch_bytes(alloc: Global, source: u32, rows: &[FieldRow]) -> Result<Vec<
     Ok(bytes)
 }
 
-/// The bytes of an import: `import`, LF, and then the canonical text of its forest. Refused only for want of memory.
+/// The bytes of an import: `import`, LF, and then the canonical text of its forest. Refused only if out of memory.
 pub fn import_bytes(alloc: Global, text: &[u8]) -> Result<Vec<u8>, AllocError>
     ensures { IfOk result (λ bytes. bytes.items ≡ written (Import text.now)) }
 {

@@ -19,7 +19,7 @@ use sha2::{Digest, Sha256};
 use std::alloc::{AllocError, Global};
 
 /// The SHA-256 of the command's bytes: FIPS 180-4. Of an import they are not put together: each record is written for
-/// itself. Refused only for want of memory.
+/// itself. Refused only if out of memory.
 pub fn command_digest(alloc: Global, command: &Command) -> Result<[u8; 32], AllocError>
     ensures { IfOk result (λ digest. digest ≡ digest_of command.now) }
 {
@@ -35,7 +35,7 @@ pub fn command_digest(alloc: Global, command: &Command) -> Result<[u8; 32], Allo
 /// The bytes of a command: of one row, its verb and its fields as a row of CSV, numbers without leading zeros and
 /// dates in canonical spelling; of a batch of entries, `entries,`, the number of its source, LF, and then each row
 /// so, without verb and source; of an import, `import`, LF, and then the canonical text of its forest. Refused only for
-/// want of memory.
+/// out of memory.
 pub fn command_bytes(alloc: Global, command: &Command) -> Result<Vec<u8>, AllocError>
     ensures { IfOk result (λ bytes. bytes.items ≡ bytes_of command.now) }
 {

@@ -36,7 +36,7 @@ impl Field {
         self.string.as_str()
     }
 
-    /// The text that the words are. `None`: they are none. Refused only for want of memory.
+    /// The text that the words are. `None`: they are none. Refused only if out of memory.
     pub fn text(&self, alloc: Global) -> Result<Option<Text>, AllocError>
         ensures { IfOk result (λ found. found ≡ text_of self.now) }
     {

@@ -38,7 +38,7 @@ fn push_nodes(alloc: Global, out: &mut String, nodes: &[Node]) -> Result<(), All
 }
 
 /// The digest of the command that imports a forest, as `command_digest` answers it, of a forest that need not be part
-/// of a command. The text of one record is put together at a time. Refused only for want of memory.
+/// of a command. The text of one record is put together at a time. Refused only if out of memory.
 pub fn forest_digest(alloc: Global, forest: &Forest) -> Result<[u8; 32], AllocError>
     ensures { IfOk result (λ digest. digest ≡ digest_of (command.Import forest.now)) }
 {

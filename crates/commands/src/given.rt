@@ -36,7 +36,7 @@ impl Model for GivenDate {
 }
 
 impl GivenDate {
-    /// The date that words say. `None`: its spelling is empty, as is that of no words. Refused only for want of memory:
+    /// The date that words say. `None`: its spelling is empty, as is that of no words. Refused only if out of memory:
     /// words that fit no form of a date are kept as a date.
     #[tactic(auto, using(record_fields::specs::Dated::one_said))]
     pub fn of_words(alloc: Global, words: &str) -> Result<Option<GivenDate>, AllocError>
@@ -73,7 +73,7 @@ impl GivenDate {
         self.spelling.as_str()
     }
 
-    /// The date of the archive in memory of its own. `None`: its spelling is no text. Refused only for want of memory.
+    /// The date of the archive in memory of its own. `None`: its spelling is no text. Refused only if out of memory.
     pub fn date(&self, alloc: Global) -> Result<Option<Date>, AllocError>
         ensures { IfOk result (λ found. found ≡ self.now.date) }
     {

@@ -64,7 +64,7 @@ pub fn two_wordings_have_other_bytes()
 {}
 
 /// No two commands have the same bytes, where their numbers are in range, their dates are as given ones are, and the
-/// nodes of an import are a forest. Two imports whose forests differ in the numbers of their lines alone are one.
+/// nodes of an import are a forest. Two imports whose forests differ only in the numbers of their lines are one.
 pub fn two_commands_have_other_bytes()
     ensures { (first second : Command) → IsSound first → IsSound second → bytes_of first ≡ bytes_of second
         → IsOneCommand first second }

@@ -104,7 +104,7 @@ pub enum RowCommand {
     Undo {
         slip: u32,
     },
-    /// A record is taken out of the archive.
+    /// A record is removed of the archive.
     Remove {
         number: u32,
     },

@@ -40,7 +40,7 @@ pub enum Verb {
     Merge,
     /// A merge is undone.
     Undo,
-    /// A record is taken out.
+    /// A record is removed.
     Remove,
 }
 

@@ -5,7 +5,7 @@
 //! and their characters, and `devices`. It knows no command and no number of a refusal.
 //!
 //! Callers may rely on: all that `file_conversion` promises of the reader and the writer; what is reported depends on
-//! the bytes and on the set that is asked for alone; nothing is reported before the whole text is written.
+//! the bytes and on the set that is asked for only; nothing is reported before the whole text is written.
 #![tactic(auto)]
 
 mod aloud;

@@ -1,4 +1,4 @@
--- Numbers that ascend are told by what is among them.
+-- Numbers that ascend are given by what is among them.
 use Rattle.std.proofs.Common.{◌≡◌, ℕ, ◌<◌, List, [], ◌∷◌, true, false, refl, sym, subst, inl, inr, arith}
 use Rattle.record_shapes.specs.Lists.{EachOf, Ascends}
 use Rattle.date_spans.specs.Between.{AreAll, IsAmong}

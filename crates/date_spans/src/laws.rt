@@ -37,13 +37,13 @@ pub fn what_is_between_is_between_wider_days()
         → IsBetween m first last n → IsBetween m earlier later n }
 {}
 
-/// Who keeps the spans of all records finds by them alone which are between two days.
+/// Who keeps the spans of all records finds only by them which are between two days.
 pub fn kept_spans_tell_what_is_between()
     ensures { (m : Records) (look : ℕ → Option Span) (first last : ℤ) (n : ℕ) → AreSpans m look
         → IsBetween m first last n ↔ ((s : Span) × (look n ≡ Some s) × Meets s first last) }
 {}
 
-/// The spans of all records are told by the records.
+/// The spans of all records follow from the records.
 pub fn records_have_one_span_each()
     ensures { (m : Records) (look other : ℕ → Option Span) (n : ℕ) → AreSpans m look → AreSpans m other
         → look n ≡ other n }
@@ -55,7 +55,7 @@ pub fn there_is_one_list_between_days()
         → AreAll (IsBetween m first last) ms → ns ≡ ms }
 {}
 
-/// A record that is put at a number, or taken out, changes the span of that number alone.
+/// A record that is put at a number, or removed, changes only the span of that number.
 pub fn one_record_changes_one_span()
     ensures put { (m : Records) (k : ℕ) (r : Record) (look after : ℕ → Option Span) → AreSpans m look
         → IsSpanOf (date_in r) (after k) → ((n : ℕ) → (n ≡ k → ⊥) → after n ≡ look n)

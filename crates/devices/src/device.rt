@@ -41,7 +41,7 @@ pub fn has_risen(before: u64, after: u64) -> bool
 /// Any reader or writer, with the count of its failures.
 ///
 /// A writer that takes no byte of those that it was given has failed too: without that a writer
-/// that never takes one could not be told from one that is slow.
+/// that never takes one could not be distinguished from one that is slow.
 #[derive(Drop)]
 pub struct Counted<T> {
     inner: T,

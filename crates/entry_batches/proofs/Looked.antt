@@ -33,7 +33,7 @@ pub left_is : (next count : ℕ)
     ≡ is_left next count
 left_is next count = grind (arith, nat_tests)
 
--- after few rows alone one is left
+-- only after few rows one is left
 pub left_behind_few : (next count n : ℕ) → number_behind next count ≡ Ok n → count ≤ 4_294_967_293
 left_behind_few next count n e =
     elim (is_left next count) as (λ b. is_left next count ≡ b → ◌≡◌ {A = Result ℕ RefusalKind}

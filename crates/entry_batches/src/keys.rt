@@ -9,7 +9,7 @@ use record_kinds::Entry;
 use std::alloc::{AllocError, Global};
 use std::collections::BTreeSet;
 
-/// Kind, item and page of an entry, parted by U+0000. Refused only for want of memory.
+/// Kind, item and page of an entry, parted by U+0000. Refused only if out of memory.
 #[tactic(auto, using(crate::proofs::Keyed::joined))]
 pub(crate) fn key_words(alloc: Global, entry: &Entry) -> Result<String, AllocError>
     ensures { IfOk result (λ words. string_bytes words ≡ entry_keys.key_words entry.now) }
@@ -23,7 +23,7 @@ pub(crate) fn key_words(alloc: Global, entry: &Entry) -> Result<String, AllocErr
     Ok(words)
 }
 
-/// Adds a key. Refused only for want of memory.
+/// Adds a key. Refused only if out of memory.
 pub(crate) fn add_key(
     alloc: Global,
     keys: &mut BTreeSet<String>,

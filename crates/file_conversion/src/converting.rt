@@ -207,7 +207,7 @@ pub fn write_text<W: Write + Device>(writer: &mut W, text: &str) -> Result<(), C
 ///
 /// Nothing is written before the text is whole, at most 67,108,864 bytes; it is held in memory, and so is the file.
 /// `ReadFailed` and `WriteFailed` come only where the count of failures of the reader or the writer has risen in this
-/// call. At `WriteFailed` a beginning was written, at any other error but want of memory nothing.
+/// call. At `WriteFailed` a beginning was written, at any other error but out of memory nothing.
 pub fn convert<R: Read + Device, W: Write + Device>(
     alloc: Global,
     asked: Option<CharacterSet>,

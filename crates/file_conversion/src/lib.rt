@@ -2,7 +2,7 @@
 //!
 //! It uses `character_sets` for the characters, `character_sets` for the lines, and `devices`. It knows HEAD and CHAR.
 //!
-//! Callers may rely on: what is written depends on the bytes alone; nothing is written before the whole file was read,
+//! Callers may rely on: what is written depends only on the bytes; nothing is written before the whole file was read,
 //! its set is known and its text is made; each line and each line end stays, but for the value of CHAR, a line CHAR
 //! where there is none, and what a CONC was cut in.
 #![tactic(auto)]

@@ -3,7 +3,7 @@
 //! It uses `gedcom_rules`, which judges a line by those before it, `gedcom_line` for the reading of a line,
 //! `gedcom_tree` for the one fault of a file, and `devices`.
 //!
-//! Callers may rely on: the list depends on the bytes of the file alone; its first line is the one fault that a file
+//! Callers may rely on: the list depends only on the bytes of the file; its first line is the one fault that a file
 //! has by `gedcom_tree`, and a file without one has an empty list; nothing is written before the list is whole.
 #![tactic(auto)]
 

@@ -52,7 +52,7 @@ fn read_all<R: Read + Device>(
     }
 }
 
-/// What a file is by its fault. `None`: memory was wanting.
+/// What a file is by its fault. `None`: out of memory.
 fn of_fault(fault: TreeFault) -> Option<Checked>
     ensures { (b : List ℕ) → IsLineless TreeKind.OutOfMemory (fault_view fault) ⊎ FaultOf b (fault_view fault)
         → IfSome result (IsFirst b) }
@@ -63,7 +63,7 @@ fn of_fault(fault: TreeFault) -> Option<Checked>
     }
 }
 
-/// What the bytes of a file are. `None`: memory was wanting.
+/// What the bytes of a file are. `None`: out of memory.
 fn first_of(alloc: Global, bytes: &[u8]) -> Option<Checked>
     ensures { IfSome result (IsFirst bytes.now) }
 {
@@ -89,7 +89,7 @@ fn list_of(alloc: Global, bytes: &[u8], checked: Checked) -> Result<Vec<u8>, All
     }
 }
 
-/// What the bytes of a file are, and the list of its faulty lines. `None`: memory was wanting.
+/// What the bytes of a file are, and the list of its faulty lines. `None`: out of memory.
 fn check(alloc: Global, bytes: &[u8]) -> Option<(Checked, Vec<u8>)>
     ensures first { IfSome result (λ x. IsFirst bytes.now x.0) }
     ensures list { IfSome result (λ x. x.1.items ≡ listing (faults bytes.now)) }

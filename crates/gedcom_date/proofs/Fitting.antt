@@ -99,7 +99,7 @@ Worded ws (InterpretedDate d phrase) = ⊥
 Worded ws (PhraseAlone phrase) = ⊥
 Worded ws (VerbatimText t) = ⊥
 
--- a date alone
+-- only a date
 on_only : (ws : List (List ℕ)) (d : Told) → AllSilent ws → told_of ws ≡ Some d → word_form ws ≡ Some (OnDate d)
 unfolding word_form told_of escape_of extent_of
 on_only [] d q h = absurd cc
@@ -352,7 +352,7 @@ pub of_phrase : (text front phrase : List ℕ) (f : Form) → IsPhrased text fro
     → IsOfForm text f
 of_phrase text front phrase f is h = phrasal_is text front phrase (words front) f is refl h
 
--- a text with a form is words alone or has a phrase
+-- a text with a form is only words or has a phrase
 abbrev pub Bracketed : List ℕ → Form → Type 0
 Bracketed text f = (front : List ℕ) × (phrase : List ℕ) × IsPhrased text front phrase × Phrasal front phrase f
 

@@ -86,7 +86,7 @@ months Republican = republican_names
 abbrev pub IsMonthWord : Calendar → List ℕ → ℕ → Type 0
 IsMonthWord c word m = (name : List ℕ) × (1 ≤ m) × (slice_get (months c) (m - 1) ≡ Some name) × Reads word name
 
--- a year, a month and a year, or a day, a month and a year; after a year alone B.C., with a space or without
+-- a year, a month and a year, or a day, a month and a year; after only a year B.C., with a space or without
 abbrev pub IsExtentOf : Calendar → List (List ℕ) → Extent → Type 0
 IsExtentOf c ws (BeforeChrist n) =
     (year : List ℕ) × (mark : List ℕ) × ((ws ≡ year ∷ mark ∷ []) ⊎ (ws ≡ (year ++ mark) ∷ [])) × IsNumber 4 year n
@@ -107,7 +107,7 @@ IsEscape Republican ws rest =
     (mark : List ℕ) × (end : List ℕ) × (ws ≡ mark ∷ end ∷ rest) × Reads mark (codes "@#DFRENCH")
     × Reads end (codes "R@")
 
--- the words are a date: an escape and how much of the date is told
+-- the words are a date: an escape and how much of the date is known
 abbrev pub IsDateOf : List (List ℕ) → Told → Type 0
 IsDateOf ws date = (rest : List (List ℕ)) × IsEscape date.calendar ws rest × IsExtentOf date.calendar rest date.extent
 

@@ -7,7 +7,7 @@ pub enum DateKind {
     OutOfMemory,
 }
 
-/// Why a date is not read or written: for want of memory alone, as each text has a value.
+/// Why a date is not read or written: only if out of memory, as each text has a value.
 #[derive(Clone, Copy, Debug, PartialEq, Eq)]
 pub struct DateFault {
     /// What is wrong.

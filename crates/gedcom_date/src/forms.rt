@@ -100,7 +100,7 @@ fn bracketed(alloc: Global, words: &[&str], phrase: &str) -> Result<Option<DateV
     }
 }
 
-/// A phrase alone, if its spelling is no longer than a text.
+/// Only a phrase, if its spelling is no longer than a text.
 fn phrase_alone(alloc: Global, phrase: &str) -> Result<Option<DateValue>, AllocError>
     ensures found { IfOk result (λ found. IfSome found (λ v.
         (view v ≡ PhraseAlone phrase.now) × IsShort (view v))) }

@@ -1,6 +1,6 @@
 //! Dates of GEDCOM 5.5.1, chapter 2, DATE_VALUE: read, written, and the days that they may mean.
 //!
-//! It uses `calendar_days`, whose calendars and dates it hands on.
+//! It uses `calendar_days` for calendars and their dates.
 //!
 //! Callers may rely on: each text has one value, and one that fits no form is kept as it stands;
 //! what is written is read as the same value; a value that is there is a good one, so that `span`

@@ -8,7 +8,7 @@ use calendar_days::CalendarDate;
 /// The value of a date line: GEDCOM 5.5.1, chapter 2, DATE_VALUE.
 #[derive(Debug, Drop)]
 pub enum DateValue {
-    /// A date alone.
+    /// Only a date.
     On(CalendarDate),
     /// `ABT`, `CAL` or `EST` and a date.
     Near(Approximation, CalendarDate),
@@ -26,7 +26,7 @@ pub enum DateValue {
     FromTo(Period),
     /// `INT`, a date and a phrase.
     Interpreted(Interpreted),
-    /// A phrase alone.
+    /// Only a phrase.
     Phrase(Phrase),
     /// A text that is none of these.
     Verbatim(Verbatim),

@@ -7,7 +7,7 @@ ghost use Rattle.gedcom_date.specs.Reading.{four, number_of, reads};
 
 use std::alloc::{AllocError, Global};
 
-/// The next word and what follows it; nothing where spaces alone are left.
+/// The next word and what follows it; nothing where only spaces are left.
 pub(crate) fn next_word(text: &str) -> Option<(&str, &str)>
     ensures { MatchOption result (words text.now ≡ [])
         (λ x. words text.now ≡ x.0.now ∷ words x.1.now) }

@@ -136,7 +136,7 @@ fn push_date(out: &mut String, date: &CalendarDate) -> Result<(), AllocError>
     }
 }
 
-/// Appends an escape and how much of a date is told.
+/// Appends an escape and how much of a date is known.
 fn push_escaped(
     out: &mut String,
     escape: &str,
@@ -151,7 +151,7 @@ fn push_escaped(
     push_extent(out, calendar, extent)
 }
 
-/// Appends how much of a date is told.
+/// Appends how much of a date is known.
 fn push_extent(out: &mut String, calendar: Calendar, extent: Extent) -> Result<(), AllocError>
     requires { IsExtent calendar extent }
     ensures { OnOk result (Appends (string_bytes out.old) (string_bytes out.new)

@@ -104,7 +104,7 @@ pub record IsText (b : List ℕ) : Type 0 where
   pub no_nul : list_any (λ x. x == 0) b ≡ false
   pub piece : IsPiece b
 
--- spaces and tabs alone
+-- only spaces and tabs
 abbrev pub IsBlank : List ℕ → Type 0
 IsBlank b = list_all is_white b ≡ true
 
@@ -118,7 +118,7 @@ pub record Spelled (b : List ℕ) (l : Parts) : Type 0 where
   pub xref : HasXref rest l.xref last
   pub tag : HasTag last l.tag l.raw
 
--- the bytes spell the line; level 99 is for CONC and CONT alone
+-- the bytes spell the line; level 99 is only for CONC and CONT
 pub record Line (b : List ℕ) (l : Parts) : Type 0 where
   pub spelled : Spelled b l
   pub high : l.level ≡ 99 → IsContinuation l.tag

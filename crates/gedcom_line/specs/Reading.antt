@@ -120,7 +120,7 @@ abbrev pub ◌>>=r◌ : {A B : Type 0} → Result A LineKind → (A → Result B
 (Ok x) >>=r f = f x
 (Err e) >>=r f = Err e
 
--- level 99 is for CONC and CONT alone
+-- level 99 is only for CONC and CONT
 abbrev pub with_tag : ℕ → Option (List ℕ) → List ℕ × List ℕ → Result Parts LineKind
 with_tag n x t = if n == 99 && not (is_continuation t.0) then Err BadLevel else Ok
     (record { level = n; xref = x; tag = t.0; raw = t.1 })

@@ -1,5 +1,5 @@
 -- A file cut at each CR and LF (The GEDCOM Standard Release 5.5.1, chapter 1: each of CR, LF, CR LF and LF CR ends a
--- line; a piece of white space alone is no line, so it is enough to cut at each of the two).
+-- line; a piece of only white space is no line, so it is enough to cut at each of the two).
 use Rattle.std.specs.Prelude.{◌≡◌, ℕ, Bool, true, false, ◌&&◌, ◌==◌, if◌then◌else◌, List, [], ◌∷◌, ◌++◌}
 use Rattle.gedcom_line.specs.Words.{is_end}
 

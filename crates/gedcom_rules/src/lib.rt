@@ -3,7 +3,7 @@
 //!
 //! Of `gedcom_line` it uses the reading of a line.
 //!
-//! Callers may rely on: each line is judged by the lines before it alone; the first faulty line decides; what
+//! Callers may rely on: each line is judged only by the lines before it; the first faulty line decides; what
 //! the bytes so far decide they decide however they go on. Tags have no meaning here, but for HEAD, TRLR,
 //! CONC, CONT and the lines of the header that name the character set and the version.
 #![tactic(auto)]

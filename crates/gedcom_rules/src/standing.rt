@@ -85,7 +85,7 @@ pub(crate) struct Standing {
 }
 
 impl Standing {
-    /// The line alone.
+    /// Only the line.
     pub(crate) fn of_line(line: &LineRef<'_>) -> Self
         ensures { standing_view result ≡ standing_of (parts line.now) [] }
     {

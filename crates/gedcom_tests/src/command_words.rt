@@ -41,6 +41,15 @@ fn day_of_export(words: &[String], alloc: Global) -> Option<Option<i32>> {
     }
 }
 
+/// Whether a plain export is asked for, and its day: none of one of the whole archive.
+fn day_of_plain_export(words: &[String], alloc: Global) -> Option<Option<i32>> {
+    match read_words(alloc, words) {
+        Ok(Asked::ExportPlain { .. }) => Some(None),
+        Ok(Asked::ExportPublicPlain { today, .. }) => Some(Some(today)),
+        _ => None,
+    }
+}
+
 /// The port, the number of visitors and the day of the room that is asked for.
 fn room_asked(words: &[String], alloc: Global) -> Option<(u16, u32, i32)> {
     match read_words(alloc, words) {
@@ -100,6 +109,23 @@ fn an_export_for_the_public_has_a_day(rt: HostRuntime) -> Result<(), AllocError>
     assert_eq!(rt; day_of_export(&words, alloc), Some(None));
     let words = split(alloc, "parish export a.db --today 1970-01-01")?;
     assert_eq!(rt; day_of_export(&words, alloc), None);
+    Ok(())
+}
+
+#[test]
+fn a_plain_export_has_a_day_if_it_is_for_the_public(rt: HostRuntime) -> Result<(), AllocError> {
+    let alloc = rt.alloc();
+    let words = split(
+        alloc,
+        "parish export --plain --public a.db --today 1970-01-02",
+    )?;
+    assert_eq!(rt; day_of_plain_export(&words, alloc), Some(Some(1)));
+    let words = split(alloc, "parish export a.db --plain")?;
+    assert_eq!(rt; day_of_plain_export(&words, alloc), Some(None));
+    let words = split(alloc, "parish export a.db --plain --today 1970-01-02")?;
+    assert_eq!(rt; day_of_plain_export(&words, alloc), None);
+    let words = split(alloc, "parish export a.db --public --today 1970-01-02")?;
+    assert_eq!(rt; day_of_plain_export(&words, alloc), None);
     Ok(())
 }
 

@@ -1,4 +1,4 @@
--- A reader that is fed more bytes: what they leave depends on what the bytes before them left alone.
+-- A reader that is fed more bytes: what they leave depends on only what the bytes before them left.
 use Rattle.std.proofs.Common.{
   ◌≡◌,
   ℕ,

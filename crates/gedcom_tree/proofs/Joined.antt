@@ -66,7 +66,7 @@ belongs_closed n (m ∷ ms) l h = elim (cases_Bool (ltb n m.level)) [
   | inr e ↦ rw e refl
 ]
 
--- a continuation belongs to a line one level above alone
+-- a continuation belongs only to a line one level above
 pub belongs_other : (n k : ℕ) (ls : List Parts) (c : Parts) → c.level ≡ k + 1 → (n ≡ k → ⊥)
     → belongs n (ls ++ c ∷ []) ≡ belongs n ls
 belongs_other n k ls c h d = belongs-push n ls c

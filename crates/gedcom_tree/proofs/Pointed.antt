@@ -62,7 +62,7 @@ pointed-push (m ∷ ms) l h p = (
   pointed-push ms l h p.1,
 )
 
--- a continuation after deeper lines alone
+-- a continuation only after deeper lines
 pointed_deeper : (k : ℕ) (ms : List Parts) (c : Parts) → list_all (λ m. ltb k m.level) ms ≡ true → c.level ≡ k + 1
     → Pointed ms → Pointed (ms ++ c ∷ [])
 pointed_deeper k [] c a h p = (λ o name i. refl, tt)

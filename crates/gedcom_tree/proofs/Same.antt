@@ -1,4 +1,4 @@
--- Forests that differ in the numbers of their lines alone have one text, whose lines are short.
+-- Forests that differ only in the numbers of their lines have one text, whose lines are short.
 use Rattle.std.proofs.Common.{
   ◌≡◌,
   ℕ,

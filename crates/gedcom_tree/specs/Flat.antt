@@ -36,7 +36,7 @@ flat = fold-Node (ℕ → List Item) flat_step
 abbrev pub flats : ℕ → List Node → List Item
 flats level ns = all_at level (map flat ns)
 
--- a node alone
+-- only a node
 abbrev pub said : ℕ → Node → Item
 said level n = record {
   line = (out-Node n).line;

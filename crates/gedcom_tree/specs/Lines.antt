@@ -94,11 +94,11 @@ pub record Leads (old new : Lines) (ps : List (List ℕ)) : Type 0 where
   pub nodes : nodes_so_far new ≡ grown (nodes_so_far old) ps
   pub sound : IsSound new
 
--- memory is wanting, or the first faulty one of the pieces has this fault
+-- out of memory, or the first faulty one of the pieces has this fault
 abbrev pub Refuses : Lines → List (List ℕ) → Fault → Type 0
 Refuses s ps f = IsLineless OutOfMemory f ⊎ (trace_run (trace_view s) ps ≡ Err f)
 
--- memory is wanting, or the pieces and what stands open after them decide this fault, whatever comes next
+-- out of memory, or the pieces and what stands open after them decide this fault, whatever comes next
 abbrev pub Blames : Lines → List (List ℕ) → List ℕ → Fault → Type 0
 Blames s ps rest f = IsLineless OutOfMemory f
     ⊎ ((next : Option ℕ) → open_fault rest next (traced (trace_run (trace_view s) ps)) ≡ Some f)

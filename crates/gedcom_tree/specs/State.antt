@@ -11,13 +11,13 @@ abbrev pub Holds : Reader → List ℕ → Type 0
 Holds r b = r ≡ reader_of b
 
 -- What `feed` answers once these are the bytes fed: nothing where no fault is decided, else the one that is, which the
--- reader keeps. Memory may be wanting.
+-- reader keeps. Memory may be refused.
 abbrev pub Takes : Reader → List ℕ → Option Fault → Type 0
 Takes new b None = Holds new b × IsOpen b
 Takes new b (Some f) = (new.answer ≡ Some f) × (IsLineless OutOfMemory f ⊎ Decides b f)
 
 -- What `finish` answers where these were the bytes fed: the forest that they read as, or their fault. Memory may be
--- wanting.
+-- refused.
 abbrev pub Finishes : List ℕ → Result (List Item) Fault → Type 0
 Finishes b (Ok f) = ReadsFile b f
 Finishes b (Err f) = IsLineless OutOfMemory f ⊎ FaultOf b f

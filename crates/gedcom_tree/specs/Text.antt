@@ -130,7 +130,7 @@ record_count f = count_by (λ i. i.level == 0) (behind_first f)
 abbrev pub HasShortLines : List ℕ → Type 0
 HasShortLines b = list_all (λ p. nat_le (char_count p) 300) (all_pieces b) ≡ true
 
--- Two forests that differ in the numbers of their lines alone.
+-- Two forests that differ only in the numbers of their lines.
 
 abbrev pub unnumbered : Item → Item
 unnumbered i = record { line = 0; level = i.level; xref = i.xref; tag = i.tag; value = i.value }

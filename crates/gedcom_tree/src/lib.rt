@@ -1,7 +1,7 @@
 //! Forests of GEDCOM lines: read from a stream in any pieces, and written.
 //!
 //! It uses `gedcom_rules`, which judges the lines, of `gedcom_line` the writing of one line, values, escapes and the
-//! split of texts, and `devices`. It hands on their public names.
+//! split of texts, and `devices`.
 //!
 //! Callers may rely on: the forest, or the fault and its line, depends on the bytes and not on how they
 //! were cut; a reader that has met a fault answers it from then on; what is written is read as the same

@@ -1,4 +1,4 @@
--- Archives that differ in what is hidden alone show the same.
+-- Archives that differ only in what is hidden show the same.
 use Rattle.std.proofs.Common.{◌≡◌, ℕ, List, [], ◌∷◌, Bool, true, false, refl, sym, ap, ◌∙◌, subst, inl, inr}
 use Rattle.std.specs.Prelude.{Option, Some, None, IfSome, map, ℤ, ◌||◌}
 use Rattle.std.specs.List.{list_any}
@@ -25,7 +25,7 @@ use Rattle.masking.specs.Masking.{
 use Rattle.masking.specs.Hidden.{IsHiddenAt, AreAlike}
 use Rattle.masking.proofs.Once.{same_at, same_records}
 
--- ---- whether a record is silent is told by what is shown of it
+-- ---- whether a record is silent follows from what is shown of it
 partners_same : (living : ℕ → Bool) (ps : List model.Partner)
     → list_any (λ (p : model.Partner). living p.person) (map shown_partner ps)
     ≡ list_any (λ (p : model.Partner). living p.person) ps
@@ -85,7 +85,7 @@ hidden_at : (j : Judged) (look : Looks) (n : ℕ) (o : Option Record) → IfSome
 hidden_at j look n None h = refl
 hidden_at j look n (Some r) h = hidden_silent j look n r h
 
--- of what is hidden, citations are of events alone, which are silent
+-- of what is hidden, citations are only of events, which are silent
 hidden_cited : (j : Judged) (look : Looks) (n : ℕ) (r : Record) → is_wanted a_cited r ≡ true
     → is_gone j look n r ≡ true → is_cited_silent j.living look n (Some r) ≡ true
 hidden_cited j look n (kind.Place p) w h = absurd cc

@@ -16,7 +16,7 @@ same_test false false h k = refl
 same_test true false h k = sym (k.1 (h.0 refl))
 same_test false true h k = h.1 (k.0 refl)
 
--- who is living is told alike by two judgements
+-- who is living is judged alike by two judgements
 same_living : (m : Records) (today : ℤ) (j k : Judged) → Judges m today j → Judges m today k → j.living ≡ k.living
 same_living m today j k h i = λ at n. same_test (j.living n) (k.living n) (h.living n) (i.living n) at
 
@@ -27,7 +27,7 @@ at_entry : (m : Records) (today : ℤ) (j k : Judged) (look : Looks) (n : ℕ) (
 at_entry m today j k look n e h i is = ap (λ b. unless (not b) (kind.Entry e))
     (same_test (j.is_open n) (k.is_open n) (h.opens n e is) (i.opens n e is))
 
--- what is shown at a number is told by who is living, but for an entry
+-- what is shown at a number follows from who is living, but for an entry
 by_living : (m : Records) (today : ℤ) (j k : Judged) (look : Looks) (n : ℕ) (r : Record) → Judges m today j
     → Judges m today k → (opens : ℕ → Bool)
     → shown_at (record { living = j.living; is_open = opens }) look n (Some r)

@@ -1,4 +1,4 @@
--- Which archives differ in what is hidden alone. Who is living, which entries are open, who owns what and who is in
+-- Which archives differ only in what is hidden. Who is living, which entries are open, who owns what and who is in
 -- which family are not hidden.
 use Rattle.std.specs.Prelude.{ℕ, ◌≡◌, ◌⊎◌, true, Some, IfSome, ℤ}
 use Rattle.std.specs.FinMap.{get}
@@ -11,7 +11,7 @@ use Rattle.masking.specs.Masking.{Judged, Judges, Looks, is_gone, shown_of}
 abbrev pub IsHiddenAt : Judged → Looks → ℕ → Type 0
 IsHiddenAt j look n = IfSome (look n) (λ r. is_gone j look n r ≡ true)
 
--- two records stand there that differ in carried lines alone; of a living person also in names and sex, of an event
+-- two records stand there that differ only in carried lines; of a living person also in names and sex, of an event
 -- also in living participants
 abbrev pub DifferInHidden : Judged → Looks → Looks → ℕ → Type 0
 DifferInHidden j a b n = (r : Record) × (s : Record) × (a n ≡ Some r) × (b n ≡ Some s)

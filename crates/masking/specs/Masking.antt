@@ -99,7 +99,7 @@ shown_family x = record {
   carried = [];
 }
 
--- living participants are taken out
+-- living participants are removed
 abbrev pub shown_event : (ℕ → Bool) → model.Event → model.Event
 shown_event living e = record e {
   place = option_map shown_event_place e.place;

@@ -11,7 +11,7 @@
 //! - every rule is judged in the archive as it is, and never in what is left of it; what is hidden of an archive
 //!   changes nothing that is shown.
 //! - `living` and `judged` answer what the definitions say of a sound archive; all is judged in the archive as it is.
-//! - a `Shown` is made by `shown` alone, of a state and a day; it has no receipts and no slips; of a sound archive it
+//! - a `Shown` is made only by `shown`, of a state and a day; it has no receipts and no slips; of a sound archive it
 //!   is the masked state, and sound.
 #![tactic(auto)]
 

@@ -22,7 +22,7 @@ use record_kinds::{Citation, Entry, Event, Record};
 use record_text::Refusal;
 use std::alloc::{AllocError, Global};
 
-/// What may be shown of an archive on a day, counted from 1970-01-01, day 0. Refused only for want of memory.
+/// What may be shown of an archive on a day, counted from 1970-01-01, day 0. Refused only if out of memory.
 pub fn shown(alloc: Global, state: &State, today: i32) -> Result<Shown, Refusal>
     ensures masked { IsSound state.now → IfOk result (λ s. masking.IsMasked state.now today s) }
     ensures sound { IsSound state.now → IfOk result (λ s. IsSound s) }

@@ -86,7 +86,7 @@ taken_at : (n : ℕ) (c : Change) → c.number ≡ n → c.new ≡ None → take
 taken_at n c at new = ap (λ k. k == n && is_none c.new) at ∙ ap (λ o. n == n && is_none o) new
     ∙ ap (λ b. b && true) (same_self n)
 
--- what is put back leaves a number alone that has no record now, where its record was not taken away
+-- what is put back leaves a number as it is that has no record now, where its record was not taken away
 left_alone : (m : Records) (n : ℕ) (cs : List Change) (x : Records) → get m n ≡ None → IsNow m cs
     → list_any (takes n) cs ≡ false → get (with_puts x (flat_map put_old cs)) n ≡ get x n
 left_alone m n [] x none now kept = refl

@@ -240,7 +240,7 @@ fn push<T: Drop>(items: &mut Vec<T>, item: T) -> Result<(), AllocError>
     Ok(())
 }
 
-/// The new records put, the one that is gone taken out, and the slip made.
+/// The new records put, the one that is gone removed, and the slip made.
 fn changes_of_merge(
     alloc: Global,
     keep: u32,

@@ -104,7 +104,7 @@ pub fn changed_numbers_are_of_referrers()
         → map (λ (x : Change). x.number) (merge_changes keep gone c.records) ≡ changed_numbers keep gone c }
 {}
 
-/// The new records put, the one that is gone taken out and the slip made: these changes leave what the merge leaves.
+/// The new records put, the one that is gone removed and the slip made: these changes leave what the merge leaves.
 pub fn changes_of_a_merge()
     ensures { (c : Content) (keep gone : ℕ) (a : Answer)
         → applied c (record {

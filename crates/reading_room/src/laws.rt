@@ -22,7 +22,7 @@ pub fn the_records_decide()
     what_is_shown_decides();
 }
 
-/// What is hidden of a sound archive changes no answer: two that differ in what is hidden alone answer the same bytes
+/// What is hidden of a sound archive changes no answer: two that differ only in what is hidden answer the same bytes
 /// alike, that one case apart.
 pub fn what_is_hidden_changes_no_answer()
     ensures { (a b : Content) (today : ℤ) (s t : Content) (input one two : List ℕ) → IsSound a → IsSound b

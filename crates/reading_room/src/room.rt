@@ -60,7 +60,7 @@ impl Pages for Room {
 }
 
 impl Room {
-    /// A room that shows a masked state. Refused only for want of memory.
+    /// A room that shows a masked state. Refused only if out of memory.
     pub fn new(alloc: Global, shown: Shown) -> Result<Room, AllocError>
         ensures { IfOk result (λ r. r ≡ shown) }
     {

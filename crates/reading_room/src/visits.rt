@@ -13,7 +13,7 @@ use std::io::BufReader;
 use std::net::{TcpListener, TcpStream};
 use std::time::Clock;
 
-/// How many connections were accepted, each of them served as far as nothing failed on it. `serve_next` alone counts.
+/// How many connections were accepted, each of them served as far as nothing failed on it. Only `serve_next` counts.
 #[derive(Drop)]
 pub(crate) struct Visits {
     count: u32,

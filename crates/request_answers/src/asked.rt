@@ -15,7 +15,7 @@ pub enum Asked<'a> {
     Perform(&'a Request, u32),
     /// Requests by one call.
     Run(&'a [Request]),
-    /// Steps by their names, of the import that is the first of these requests. `perform` is of the second alone, `run`
+    /// Steps by their names, of the import that is the first of these requests. `perform` is only of the second, `run`
     /// of all.
     Steps(&'a [&'a str], &'a [Request]),
 }

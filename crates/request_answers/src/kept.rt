@@ -1,4 +1,4 @@
-//! An archive in files, of which the bytes alone are kept from row to row.
+//! An archive in files, of which only the bytes are kept from row to row.
 
 use crate::asked::{Asked, Outcome, Reply, Told};
 use crate::files::{ArchiveFiles, Fuses, Visits};

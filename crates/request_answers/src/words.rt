@@ -35,7 +35,7 @@ impl Words {
         }
     }
 
-    /// Says what became of a visit: of one that was told of, each outcome, and whether the state and the society were
+    /// Says what became of a visit: of one that is known, each outcome, and whether the state and the society were
     /// read.
     pub(crate) fn say_reply(&mut self, alloc: Global, reply: &Reply) -> Result<(), AllocError> {
         match reply {
@@ -66,7 +66,7 @@ impl Words {
         Ok(())
     }
 
-    /// Says what became of a visit: of one that was told of, the first number and the count of each answer, or the
+    /// Says what became of a visit: of one that is known, the first number and the count of each answer, or the
     /// number of the refusal.
     pub(crate) fn say_answers(&mut self, alloc: Global, reply: &Reply) -> Result<(), AllocError> {
         let Reply::Told(told) = reply else {

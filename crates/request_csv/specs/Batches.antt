@@ -38,6 +38,6 @@ pub record RefusesRow (input : Option (List ℕ)) (e : Refusal) : Type 0 where
 abbrev pub placeless : RefusalKind → Refusal
 placeless kind = record { kind = kind; at = None }
 
--- memory was wanting or the reader failed; or it is the refusal of a row
+-- out of memory, or the reader failed; or it is the refusal of a row
 abbrev pub IsRefused : Option (List ℕ) → Refusal → Type 0
 IsRefused input e = (e ≡ placeless OutOfMemory) ⊎ ((e ≡ placeless ReadFailed) ⊎ RefusesRow input e)

@@ -12,6 +12,6 @@ line_text row refusal name what = codes "row " ++ (decimal row ++ (codes ": " ++
 abbrev pub fault_text : ℕ → RefusalKind → List ℕ → List ℕ
 fault_text row kind what = line_text row (number_of kind) (name_of kind) what
 
--- what is wrong is told in words of our own
+-- what is wrong is said in words of our own
 abbrev pub IsFault : ℕ → RefusalKind → List ℕ → Type 0
 IsFault row kind line = (what : List ℕ) × (line ≡ fault_text row kind what)

@@ -11,7 +11,7 @@ use std::alloc::{AllocError, Global};
 const KEPT_FIELDS: usize = 210;
 
 /// The first fields of a row, at most 210: a row of more is refused by these as it is by all. `None`: a field is not
-/// UTF-8, however far after. Refused only for want of memory.
+/// UTF-8, however far after. Refused only if out of memory.
 pub fn text_fields<'a>(
     alloc: Global,
     row: &'a ByteRecord,

@@ -14,7 +14,7 @@ pub(crate) struct Place {
 /// What is wrong with a row.
 #[derive(Clone, Copy, Debug, PartialEq, Eq)]
 pub(crate) enum Finding {
-    /// No field alone is to blame.
+    /// No single field is to blame.
     Row {
         what: &'static str,
     },

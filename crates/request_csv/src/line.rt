@@ -9,8 +9,8 @@ use record_text::RefusalKind;
 use std::alloc::{AllocError, Global};
 
 /// The line of the row with this number, from 1, that was refused so: `row <n>: <no.> <Name>: <what is wrong>`, ended
-/// by LF. What is wrong is told by the row's own fields, where one or two of them are to blame with their places and
-/// names, the token's place being 1; no word of the row stands in it. Refused only for want of memory.
+/// by LF. What is wrong is said by the row's own fields, where one or two of them are to blame with their places and
+/// names, the token's place being 1; no word of the row stands in it. Refused only if out of memory.
 pub fn fault_line(
     alloc: Global,
     number: u64,

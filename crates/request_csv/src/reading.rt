@@ -75,7 +75,7 @@ fn blamed(why: Refusal, risen: bool) -> Refusal
     }
 }
 
-/// The same over a reader that this call uses up, which is blamed at each error that is no want of memory.
+/// The same over a reader that this call uses up, which is blamed at each error that is not out of memory.
 fn rows_of<R: Read + Drop>(alloc: Global, input: R) -> Result<EntryRows, Refusal>
     ensures read { IfOk result (ReadsBatch (row_bytes (R.remaining input))) }
     ensures refused { IfErr result (IsRefused (row_bytes (R.remaining input))) }
@@ -138,7 +138,7 @@ fn add_row(
     }
 }
 
-/// Puts an entry after those that are there. Refused only for want of memory.
+/// Puts an entry after those that are there. Refused only if out of memory.
 fn add(entry: EntryRow, entries: &mut Vec<EntryRow>) -> Result<(), Refusal>
     ensures added { OnOk result (entries.new.items ≡ entries.old.items ++ entry ∷ []) }
     ensures refused { IfErr result (λ e. e ≡ placeless refusal.OutOfMemory) }
@@ -175,7 +175,7 @@ fn entry_of(alloc: Global, row: &ByteRecord) -> Result<EntryRow, RefusalKind>
     }
 }
 
-/// What an error of reading rows means: 94, or 1 where it is want of memory.
+/// What an error of reading rows means: 94, or 1 if it is out of memory.
 pub fn reading_failed(error: csv::Error) -> RefusalKind
     ensures { (result ≡ refusal.OutOfMemory) ⊎ (result ≡ refusal.ReadFailed) }
 {

@@ -8,7 +8,7 @@ use request_answers::{ArchiveFiles, Asked, Fuses, Reply, Visits};
 use std::alloc::{AllocError, Global};
 
 impl Images {
-    /// Does a task over copies of the files, and answers what these have after it. Here alone a task meets real files.
+    /// Does a task over copies of the files, and answers what these have after it. Only here a task meets real files.
     fn session(
         &self,
         alloc: Global,

@@ -92,7 +92,7 @@ fn is_refused_after(
     refused == Some(Refusal::from(failure.kind())) && view.failures() == 1
 }
 
-/// Whether so many looks are enough to decide a request as over the state alone.
+/// Whether so many looks are enough to decide a request as only over the state.
 fn is_decided_alike(
     alloc: Global,
     state: &State,

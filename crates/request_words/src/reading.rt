@@ -64,7 +64,7 @@ fn push<T: Drop>(items: &mut Vec<T>, item: T) -> Result<(), AllocError> {
     Ok(items.push(item)?)
 }
 
-/// The import of a file of this text. A text that is no file is told as a bad row.
+/// The import of a file of this text. A text that is no file is reported as a bad row.
 fn import_of(alloc: Global, text: &str) -> Result<Command, RefusalKind> {
     let mut bytes = Counted::new(text.as_bytes());
     match read_forest(alloc, &mut bytes) {

@@ -51,7 +51,7 @@ pub fn said<'a>(alloc: Global, word: &'a str, what: &'a [u8]) -> Result<Vec<u8>,
     row(alloc, &[word.as_bytes(), what])
 }
 
-/// A word alone.
+/// Only a word.
 pub fn word(alloc: Global, text: &str) -> Result<Vec<u8>, AllocError> {
     row(alloc, &[text.as_bytes()])
 }

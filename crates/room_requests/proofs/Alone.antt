@@ -1,4 +1,4 @@
--- The bytes alone decide what they begin with.
+-- Only the bytes decide what they begin with.
 use Rattle.std.proofs.Common.{
   ◌≡◌,
   ◌≤◌,

@@ -19,7 +19,7 @@ pub surname_at : route_at (codes "/surname") ≡ Some route.Surname
 unfolding matchit_on_literals
 surname_at = refl
 
--- routes are told apart by numbers
+-- routes are distinguished by numbers
 abbrev pub code : Route → ℕ
 code route.Index = 0
 code route.Person = 1

@@ -4,7 +4,7 @@ use Rattle.room_requests.specs.Heads.{Begins, IsRefused}
 use Rattle.room_requests.specs.declared.head.HeadRead.{HeadRead}
 use Rattle.room_requests.specs.Visits.{Answers, IsEither, Room, answer_to}
 
--- that the bytes alone decide what they begin with
+-- that only the bytes decide what they begin with
 abbrev pub BytesDecide : Type 0
 BytesDecide = (input : List ℕ) (a b : HeadRead) → Begins input a → Begins input b
     → (a ≡ b) ⊎ (IsRefused a × IsRefused b)

@@ -9,7 +9,7 @@ use Rattle.room_requests.specs.declared.page.Page.TheVariants as page
 use Rattle.room_requests.specs.declared.page.Route.{Route}
 use Rattle.room_requests.specs.declared.page.Route.TheVariants as route
 
--- a route of these bytes alone
+-- a route of only these bytes
 abbrev pub literal : List ℕ → Route → List ℕ × RouteOf Route
 literal text r = (text, record { pattern = text; text = text; names = []; value = r })
 

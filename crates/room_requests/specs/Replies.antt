@@ -9,7 +9,7 @@ phrase_of status = unwrap_or (reason_phrase status) []
 abbrev pub status_line : ℕ → List ℕ
 status_line status = codes "HTTP/1.1 " ++ code_digits status ++ codes " " ++ phrase_of status ++ codes "\r\n"
 
--- which methods there are, told with 405 alone
+-- which methods there are, said only with 405
 abbrev pub allow_line : ℕ → List ℕ
 allow_line status = if status == 405 then codes "Allow: GET, HEAD\r\n" else []
 

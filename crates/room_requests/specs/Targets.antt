@@ -2,7 +2,7 @@
 use Rattle.std.specs.Prelude.{ℕ, List, [], ◌∷◌, drop, codes, Bool, ◌==◌, nat_eq, if◌then◌else◌}
 use Rattle.std.specs.List.{starts_with, before_first, after_first}
 
--- from the first slash, or a slash alone
+-- from the first slash, or only a slash
 abbrev pub from_slash : List ℕ → List ℕ
 from_slash [] = codes "/"
 from_slash (b ∷ rest) = if b == 47 then b ∷ rest else from_slash rest

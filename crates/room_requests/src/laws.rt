@@ -16,7 +16,7 @@ ghost use Rattle.room_requests.specs.declared.page.Page.TheVariants as page;
 ghost use Rattle.room_requests.specs.Replies.{reply, refusal};
 ghost use Rattle.room_requests.specs.Visits.{Answers, IsEither, Room};
 
-/// The bytes alone decide what they begin with, but for a head that is malformed or cut, and too large: it
+/// Only the bytes decide what they begin with, but for a head that is malformed or cut, and too large: it
 /// may be called either.
 pub fn the_bytes_decide()
     ensures { (input : List ℕ) (a b : HeadRead) → Begins input a → Begins input b

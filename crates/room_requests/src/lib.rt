@@ -11,7 +11,7 @@
 //! - no more than 8,192 bytes are taken, and none once the head has ended or is ruled out; what is answered depends on
 //!   the bytes and not on the pieces in which they come, but for a head that is malformed or cut, and too large: it may
 //!   be called either.
-//! - what a head asks for is a function of the head alone; 400 comes before 405, and this before 404; a query is judged
+//! - what a head asks for is a function only of the head; 400 comes before 405, and this before 404; a query is judged
 //!   by whoever knows whether its page is there, since 404 comes before the query's 400.
 //! - `Content-Length` is that of the page in bytes, also where the page is left out; an answer is whole before its
 //!   first byte is written; after a write that failed the writer has got a beginning of it.

@@ -58,7 +58,7 @@ fn find_route(alloc: Global, path: &str) -> Result<Option<Route>, AllocError>
     }
 }
 
-/// All routes. Refused only for want of memory.
+/// All routes. Refused only if out of memory.
 fn routes(alloc: Global) -> Result<Router<Route>, InsertError>
     ensures { IfOk result (λ router. router ≡ room_routes) }
 {

@@ -56,7 +56,7 @@ pub trait Pages {
     /// Whether it finds just that.
     ghost is_honest: { Self → Type 0 };
 
-    /// What is found of a page with its query. Refused only for want of memory.
+    /// What is found of a page with its query. Refused only if out of memory.
     fn show(&self, alloc: Global, page: Page, query: &Query) -> Result<PageFound, AllocError>
         ensures { is_honest self.now → IfOk result (λ found. found ≡ shows self.now page query.now) };
 }

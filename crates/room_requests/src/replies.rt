@@ -70,7 +70,7 @@ fn push_status(bytes: &mut Vec<u8>, status: StatusCode) -> Result<(), AllocError
     Ok(())
 }
 
-/// Adds which methods there are, with 405 alone.
+/// Adds which methods there are, only with 405.
 fn push_allow(bytes: &mut Vec<u8>, status: StatusCode) -> Result<(), AllocError>
     ensures { OnOk result (bytes.new.items ≡ bytes.old.items ++ allow_line status) }
 {

@@ -13,7 +13,7 @@ pub(crate) fn local_target(target: &str) -> &str
     }
 }
 
-/// From the first slash, or a slash alone.
+/// From the first slash, or only a slash.
 fn from_slash(rest: &str) -> &str
     ensures { result.now ≡ from_slash rest.now }
 {

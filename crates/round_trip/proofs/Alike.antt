@@ -32,7 +32,7 @@ module _ (f : ℕ → ℕ) (k j : Known) (h : (n : ℕ) → j.tag (f n) ≡ k.ta
   abbrev plain : List ℕ → Value → Forest Line → Tree Line
   plain tag v fo = node (record { tag = tag; value = v }) fo
 
-  -- a field that asks of other records for their tags alone
+  -- a field that asks of other records only for their tags
   abbrev pub IsAlike : (Known → Tree Line → Field) → Type 0
   IsAlike field = (t : Tree Line) → field j (relabel (line_with f) t) ≡ field k t
 

@@ -42,7 +42,7 @@ use Rattle.archive_state.specs.Texts.{forest_texts, line_texts, there, value_tex
 use Rattle.record_shapes.proofs.Each.{each_of_flat, each_more, each_zip, each_parts}
 use Rattle.list_laws.proofs.Booleans.{both_true, true_not_false}
 
--- ---- tags that are told
+-- ---- tags that are known
 abbrev pub is_good_tag : List ℕ → Bool
 is_good_tag tag = (nat_lt 0 (length tag) && nat_le (length tag) 31)
     && (list_all is_word tag && (not (bytes_eq tag (codes "CONC")) && not (bytes_eq tag (codes "CONT"))))
@@ -109,7 +109,7 @@ fits_within n (t ∷ ts) w h =
     let most : max (levels t) (forest_levels (forest_of ts)) ≤ n = w in
     ((h.0, omega arith), fits_within n ts (omega arith) h.1)
 
--- a line of a text alone, and one that may be missing
+-- only a line of a text, and one that may be missing
 pub fits_text : (k : ℕ) (tag t : List ℕ) → 1 ≤ k → is_good_tag tag ≡ true → IsText t → Fits k (text_line tag t)
 fits_text k tag t l g h = (((good_tag tag g, h), tt), let one : 1 ≤ k = l in omega arith)
 

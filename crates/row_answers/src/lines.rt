@@ -26,7 +26,7 @@ pub(crate) fn say_of_lines(
 
 /// Says the lines of a branch, or that there is none.
 fn say_branch(alloc: Global, found: Option<Branch>, out: &mut Answer) -> Result<(), AllocError> {
-    match &found {
+    match found {
         Some(branch) => out.say_lines(&lines_of_branch(alloc, branch)?),
         None => out.say_line("none"),
     }

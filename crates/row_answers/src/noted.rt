@@ -28,7 +28,7 @@ impl Noted {
         }
     }
 
-    /// Adds the stored line of a row `line`. 58 or want of memory: it is none.
+    /// Adds the stored line of a row `line`. 58 or out of memory: it is none.
     pub fn add_line(&mut self, alloc: Global, words: &[String]) -> Result<(), RefusalKind> {
         let line = line_of(alloc, words)?;
         Ok(push(&mut self.lines, line)?)

@@ -5,7 +5,7 @@ use std::alloc::Global;
 use std::fmt;
 use stored_lines::StoredLine;
 
-/// What is answered to a row. Where memory is refused the answer is that refusal alone, so that those who write
+/// What is answered to a row. Where memory is refused the answer is only that refusal, so that those who write
 /// need not look whether they could.
 #[derive(Drop)]
 pub struct Answer {

@@ -6,7 +6,7 @@
 //!   for whoever keeps the archive, so nothing is masked.
 //!
 //! Callers may rely on:
-//! - what a text is folded to depends on its NFKD alone, so a name is found composed or not; the words of a search
+//! - what a text is folded to depends only on its NFKD, so a name is found composed or not; the words of a search
 //!   occur in a text where each of them begins a word of it, and nowhere else.
 //! - the lines are those of the records that are wanted, by number, so many after a number as are asked for; no line
 //!   has a control character; nothing is changed.

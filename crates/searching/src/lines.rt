@@ -29,7 +29,7 @@ impl Model for Line {
     ghost view = { λ a. (a.number, string_bytes a.text) };
 }
 
-/// The line of a record, without a line end. Refused only for want of memory.
+/// The line of a record, without a line end. Refused only if out of memory.
 pub fn line_of(alloc: Global, number: u32, record: &Record) -> Result<String, AllocError>
     ensures { IfOk result (λ s. string_bytes s ≡ lines.line number «record».now) }
 {

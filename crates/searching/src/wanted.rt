@@ -49,7 +49,7 @@ pub struct Listing {
     pub counts_others: bool,
 }
 
-/// Whether the record is wanted. Refused only for want of memory.
+/// Whether the record is wanted. Refused only if out of memory.
 pub(crate) fn is_wanted(alloc: Global, wanted: &Wanted, record: &Record) -> Result<bool, AllocError>
     ensures { IfOk result (λ b. b ≡ wants.is_wanted «wanted».now «record».now) }
 {

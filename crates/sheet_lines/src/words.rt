@@ -9,7 +9,7 @@ use record_kinds::Person;
 use record_text::display;
 use std::alloc::{AllocError, Global};
 
-/// Appends a text as it is printed: each LF is a space. Refused only for want of memory.
+/// Appends a text as it is printed: each LF is a space. Refused only if out of memory.
 pub fn push_printed(out: &mut String, text: &str) -> Result<(), AllocError>
     ensures { OnOk result (string_bytes out.new ≡ string_bytes out.old ++ words.printed text.now) }
 {
@@ -37,7 +37,7 @@ pub(crate) fn push_right(out: &mut String, places: usize, number: u32) -> Result
     write!(out, "{number:>places$}")
 }
 
-/// Appends a date after a word, where there is one. Refused only for want of memory.
+/// Appends a date after a word, where there is one. Refused only if out of memory.
 pub fn push_dated(out: &mut String, word: &str, date: Option<&Date>) -> Result<(), AllocError>
     ensures { OnOk result (string_bytes out.new ≡ string_bytes out.old
         ++ words.dated word.now (option_copied date.entry)) }

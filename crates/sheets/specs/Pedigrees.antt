@@ -95,7 +95,7 @@ first_date at tag (k ∷ ks) = or_else (date_as tag (at k)) (first_date at tag k
 abbrev pub date_of : Gathered → List ℕ → ℕ → Option Date
 date_of g tag person = first_date g.at tag (g.events person)
 
--- what is told of a person
+-- what is said of a person
 abbrev pub words_of : Gathered → ℕ → List ℕ
 words_of g person = ancestor_words (display_in (g.at person)) (date_of g (codes "BIRT") person)
     (date_of g (codes "DEAT") person)

@@ -14,12 +14,7 @@ use record_fields::{Date, Partnership};
 use record_kinds::{Event, Partner, Record};
 
 /// The first husband, or wife, of the lowest family where the person is a child. Takes no memory.
-pub(crate) fn parent_of(
-    state: &State,
-    index: &Index,
-    partnership: Partnership,
-    person: u32,
-) -> Option<u32>
+pub fn parent_of(state: &State, index: &Index, partnership: Partnership, person: u32) -> Option<u32>
     requires { IsArranged index.now }
     ensures { result ≡ pedigrees.parent (indexed state.now.records index.now) partnership person }
 {

@@ -71,14 +71,14 @@ fn ancestor_of(
     ensures { IfOk result (IsAncestor (indexed state.now.records index.now) person) }
 {
     Ok(Ancestor {
-        words: words_of(alloc, state, index, person)?,
+        words: ancestor_words(alloc, state, index, person)?,
         father: parent_of(state, index, Partnership::Husband, person),
         mother: parent_of(state, index, Partnership::Wife, person),
     })
 }
 
 /// The display of a person, with the dates of birth and death.
-pub(crate) fn words_of(
+pub fn ancestor_words(
     alloc: Global,
     state: &State,
     index: &Index,

@@ -12,7 +12,7 @@ ghost use Rattle.sheets.specs.Pages as pages;
 ghost use Rattle.sheets.specs.Pedigrees as pedigrees;
 ghost use Rattle.sheets.specs.Sheets as sheets;
 
-/// What is hidden of a sound archive changes no sheet and no page: two that differ in what is hidden alone have the
+/// What is hidden of a sound archive changes no sheet and no page: two that differ only in what is hidden have the
 /// same.
 pub fn what_is_hidden_changes_no_sheet()
     ensures person { (a b : Content) (today : ℤ) (s t : Content) (n : ℕ) → IsSound a → IsSound b → AreAlike a b today

@@ -4,7 +4,7 @@
 //! `sheet_lines` for who has which surname, and `sheet_lines` for the lines.
 //!
 //! Callers may rely on: a sheet is the text of its definition over the masked records; it is refused where no record
-//! has the number (50), where it is of another kind (51), and for want of memory.
+//! has the number (50), where it is of another kind (51), and if out of memory.
 #![tactic(auto)]
 
 mod ancestors;
@@ -22,10 +22,13 @@ mod persons;
 mod registers;
 mod surnames;
 
+pub use ancestors::parent_of;
 pub use families::family_sheet;
 pub use generations::Generations;
+pub use known::ancestor_words;
 pub use library::Library;
 pub use pages::{index_page, surname_page};
 pub use pedigrees::pedigree;
 pub use persons::person_sheet;
 pub use registers::register_sheet;
+pub use surnames::surnames_of;

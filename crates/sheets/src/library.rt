@@ -60,7 +60,7 @@ impl Model for Library {
 }
 
 impl Library {
-    /// A masked state with its indices. Refused only for want of memory.
+    /// A masked state with its indices. Refused only if out of memory.
     pub fn new(alloc: Global, shown: Shown) -> Result<Library, AllocError>
         ensures { IfOk result (λ l. l ≡ shown) }
     {

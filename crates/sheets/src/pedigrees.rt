@@ -33,7 +33,7 @@ ghost use Rattle.sheets.specs.Pedigrees as pedigrees;
 use crate::ancestors::parent_of;
 use crate::gathering::index_of;
 use crate::generations::Generations;
-use crate::known::{Ancestor, found, learn, words_of};
+use crate::known::{Ancestor, ancestor_words, found, learn};
 use archive_state::State;
 use gedcom_export::Index;
 use masking::Shown;
@@ -241,7 +241,7 @@ fn push_person(
     match found(known, person) {
         Some(ancestor) => push_ancestor(out, number, ancestor.words.as_str()),
         None => {
-            let words = words_of(alloc, state, index, person)?;
+            let words = ancestor_words(alloc, state, index, person)?;
             push_ancestor(out, number, words.as_str())
         }
     }

@@ -77,7 +77,7 @@ fn push_person(
     push_partner_families(out, index, number)
 }
 
-/// Appends what a person tells alone: the number, the names and the sex.
+/// Appends what is of a person only: the number, the names and the sex.
 fn push_own(alloc: Global, out: &mut String, number: u32, person: &Person) -> Result<(), AllocError>
     ensures { OnOk result (string_bytes out.new ≡ string_bytes out.old ++ sheets.own_text number person.now) }
 {

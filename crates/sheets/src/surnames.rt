@@ -17,12 +17,8 @@ use record_text::surname;
 use sheet_lines::SurnameIndex;
 use std::alloc::{AllocError, Global};
 
-/// The masked persons by their surnames, each of whom is looked at once.
-pub(crate) fn surnames_of(
-    alloc: Global,
-    shown: &Shown,
-    index: &Index,
-) -> Result<SurnameIndex, AllocError>
+/// The masked persons by their surnames, by the index of the masked records. Each person is looked at once.
+pub fn surnames_of(alloc: Global, shown: &Shown, index: &Index) -> Result<SurnameIndex, AllocError>
     ensures { IsIndexOf (map.entries shown.now.records) index.now → IfOk result (AreCalled shown.now.records) }
 {
     let mut surnames = SurnameIndex::new(alloc);

@@ -2,4 +2,5 @@ pub mod Fields
 pub mod Heads
 pub mod Named
 pub mod Shown
+pub mod SlipLists
 pub mod Slips

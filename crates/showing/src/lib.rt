@@ -14,7 +14,9 @@ mod fields;
 mod named;
 mod persons;
 mod showing;
+mod slip_lists;
 mod slips;
 mod sources;
 
 pub use showing::show;
+pub use slip_lists::slip_page;

@@ -41,7 +41,7 @@ pub(crate) fn push_slip(
 }
 
 /// Who was merged into whom, and whether that was undone.
-fn push_words(out: &mut String, slip: &Slip) -> Result<(), AllocError>
+pub(crate) fn push_words(out: &mut String, slip: &Slip) -> Result<(), AllocError>
     ensures { OnOk result (string_bytes out.new ≡ string_bytes out.old ++ slips.slip_words slip.now) }
 {
     let gone = slip.gone;

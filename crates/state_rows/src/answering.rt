@@ -10,7 +10,7 @@ use record_text::RefusalKind;
 use row_words::{Answer, line_of, number, word, words_of};
 use std::alloc::Global;
 
-/// The answer to a row. A row that is refused is answered with its refusal alone.
+/// The answer to a row. A row that is refused is answered only with its refusal.
 pub(crate) fn answer_to(alloc: Global, session: &mut Session, row: &str) -> Answer {
     let mut out = Answer::new(alloc);
     if let Err(kind) = answer_row(alloc, session, row, &mut out) {

@@ -137,7 +137,7 @@ pub(crate) fn is_continuation(tag: &str) -> bool
     tag == "CONC" || tag == "CONT"
 }
 
-/// Puts a line together. Level 99 is for CONC and CONT alone.
+/// Puts a line together. Level 99 is only for CONC and CONT.
 fn with_tag<'a>(
     level: u8,
     xref: Option<&'a str>,
