@@ -8,11 +8,13 @@
    PIECE: what is read from or written to standard input, standard output and connections moves at most
    so many bytes a call. NOTES: to this file each call is added that changes or syncs a file whose path
    begins with NOTED, as its path and `w AT SIZE` with the bytes, `t SIZE` or `s`; and what is written
-   to standard output, as `out w 0 SIZE` with the bytes. */
+   to standard output, as `out w 0 SIZE` with the bytes. KILLED_AFTER: the program is killed after so
+   many calls that change or sync a file whose path begins with NOTED. */
 
 #define _GNU_SOURCE
 #include <errno.h>
 #include <fcntl.h>
+#include <signal.h>
 #include <stdarg.h>
 #include <stdio.h>
 #include <stdlib.h>
@@ -25,7 +27,7 @@
 
 enum { LONGEST = 4096 };
 
-static long calls;
+static long calls, changes;
 
 /* The path of a descriptor, or `socket:[..]` and the like. */
 static void name_of(int fd, char *name)
@@ -89,15 +91,17 @@ static size_t piece(int fd, size_t size)
 /* Adds a call to the notes, with the bytes that it wrote. */
 static void note(int fd, const void *bytes, size_t size, const char *format, ...)
 {
-    const char *notes = getenv("NOTES"), *noted = getenv("NOTED");
+    const char *notes = getenv("NOTES"), *noted = getenv("NOTED"), *killed = getenv("KILLED_AFTER");
     char name[LONGEST], line[LONGEST + 64];
     int before = errno;
-    if (!notes || !noted)
+    if (!noted)
         return;
     name_of(fd, name);
+    if (killed && strncmp(name, noted, strlen(noted)) == 0 && ++changes == strtol(killed, NULL, 10))
+        syscall(SYS_kill, syscall(SYS_getpid), SIGKILL);
     if (fd == 1)
         strcpy(name, "out");
-    if (fd == 1 || strncmp(name, noted, strlen(noted)) == 0) {
+    if (notes && (fd == 1 || strncmp(name, noted, strlen(noted)) == 0)) {
         int to = syscall(SYS_openat, AT_FDCWD, notes, O_WRONLY | O_CREAT | O_APPEND, 0600);
         int length = snprintf(line, sizeof line, "%s ", name);
         va_list more;

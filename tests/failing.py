@@ -37,6 +37,11 @@ def noting(library: str, notes: str, noted: str) -> dict[str, str]:
     return {**os.environ, "LD_PRELOAD": library, "NOTES": notes, "NOTED": noted}
 
 
+def killed(library: str, after: int, noted: str) -> dict[str, str]:
+    """The program is killed after so many calls that change or sync a file whose path begins so."""
+    return {**os.environ, "LD_PRELOAD": library, "KILLED_AFTER": str(after), "NOTED": noted}
+
+
 def noted_calls(notes: str) -> Iterator[tuple[str, list[str], bytes]]:
     """The calls that were noted: the path, or `out`; `w AT SIZE`, `t SIZE` or `s`; and the bytes of the first."""
     with open(notes, "rb") as file:

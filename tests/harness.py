@@ -53,6 +53,8 @@ REFUSALS = {
     93: "BadToken",
     94: "ReadFailed",
     95: "WriteFailed",
+    97: "UnknownColumn",
+    98: "MissingColumn",
 }
 
 

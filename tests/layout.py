@@ -169,6 +169,22 @@ def calls_are_there():
     demand(not found, f"ARCHITECTURE.md names calls that are not there: {', '.join(found)}")
 
 
+LED_TO = re.compile(r"`(\w+)`(?: and `(\w+)`)? in\s+\[[^\]]*\]\(\.\./(crates/[^)]*)\)")
+
+
+def lost_homes():
+    """The calls and definitions that ARCHITECTURE.md leads to with a link, where the file has none of the name."""
+    for *its, path in LED_TO.findall(text_of("docs/ARCHITECTURE.md")):
+        for name in filter(None, its):
+            if not re.search(rf"(?:\bfn|\bpub(?: record| data)?) {name}(?!\w)", text_of(path)):
+                yield f"{name} in {path}"
+
+
+def links_lead_to_their_names():
+    found = list(lost_homes())
+    demand(not found, f"ARCHITECTURE.md leads to files without these names: {', '.join(found)}")
+
+
 # Documents for whoever changes the project, and names of the kit in them.
 CITING = ("ARCHITECTURE", "CONTRIBUTING", "DECISIONS", "GATE", "PROVED")
 OF_THE_KIT = {"open_files", "open_from"}
@@ -229,6 +245,7 @@ def cases(_tools: Tools):
     yield Case("layout: parts of documents that repeat sources are generated", parts_are_generated)
     yield Case("layout: the definitions that documents name are there", definitions_are_named)
     yield Case("layout: the calls that ARCHITECTURE.md names are there", calls_are_there)
+    yield Case("layout: the links of ARCHITECTURE.md lead to the names before them", links_lead_to_their_names)
     yield Case("layout: the names that documents cite are there", cited_names_are_there)
     yield Case("layout: each type and function has one import path", imports_have_one_path)
     yield Case("layout: a second import path is found", second_paths_are_found)

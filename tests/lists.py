@@ -115,7 +115,7 @@ CARRIED_SHOWN = {
     3: "3  other  OBJE\ntag: OBJE\nvalue: 1\n1 FILE a.png\n",
 }
 NO_NUMBERS = ("0", "x", "", "4294967296", "1.0", "-1", "99999999999")
-NO_KINDS = ("people", "Persons", "", "person", "slips")
+NO_KINDS = ("people", "Persons", "", "person", "slip", "Slips")
 NO_KEYS = ("'", "-", "", " ", "’", "/")
 WORDS = (
     ("list",), ("list", "FILE"), ("list", "persons"), ("list", "FILE", "persons", "places"),
@@ -125,7 +125,8 @@ WORDS = (
     ("list", "FILE", "persons", "--source", "10"),
     ("find", "FILE", "ann", "--after", "1"),
     *(("list", "FILE", kind) for kind in NO_KINDS),
-    *(("find", "FILE", "ann", "--kind", kind) for kind in NO_KINDS),
+    *(("find", "FILE", "ann", "--kind", kind) for kind in (*NO_KINDS, "slips")),
+    ("list", "FILE", "slips", "--source", "10"),
     *(("list", "FILE", "persons", "--limit", number) for number in NO_NUMBERS),
     *(("list", "FILE", "persons", "--after", number) for number in NO_NUMBERS[1:]),
     *(("list", "FILE", "entries", "--source", number) for number in NO_NUMBERS),
@@ -304,6 +305,27 @@ def a_slip_of_a_merge(tools):
         demand(at.tables() == before, "the tables changed")
 
 
+def slips_by_number(tools):
+    """The slips and no record, by number; those after a number, so many at most; and the archive is as it was."""
+    with Listed(tools) as at:
+        at.with_rows(("a,person,Ann /Lee/,F", "b,person,Anna /Lee/,F", "c,person,Anne /Lee/,F"))
+        expect(at.list("slips"), written(b""))
+        answers = at.apply(b"m,merge,1,2\nu,undo,4\nd,place,Kent,\nn,merge,3,2\no,merge,1,3\nr,remove,5\n").out
+        demand(answers == b"m,ok,4,1\nu,ok,0,0\nd,ok,5,1\nn,ok,6,1\no,ok,7,1\nr,ok,0,0\n", f"{answers!r}")
+        lines = {4: "4  slip  2 into 1  undone\n", 6: "6  slip  2 into 3\n", 7: "7  slip  3 into 1\n"}
+        before = at.tables()
+        for words, numbers in (
+            ((), (4, 6, 7)), (("--after", "0"), (4, 6, 7)), (("--after", "3"), (4, 6, 7)), (("--after", "4"), (6, 7)),
+            (("--after", "6"), (7,)), (("--after", "7"), ()), (("--after", "4294967295"), ()), (("--limit", "1"), (4,)),
+            (("--limit", "2"), (4, 6)), (("--limit", "4294967295"), (4, 6, 7)),
+            (("--after", "4", "--limit", "1"), (6,)),
+        ):
+            expect(at.list("slips", *words), written("".join(lines[n] for n in numbers).encode()))
+        for number, text in lines.items():
+            demand(at.show(number).out.startswith(text.encode()), f"{number}")
+        demand(at.tables() == before, "the tables changed")
+
+
 def words_that_are_refused(tools):
     """Status 2 with a text on standard error; no file is made or opened."""
     with Listed(tools) as at:
@@ -381,6 +403,7 @@ TESTS = (
     more_than_a_thousand,
     what_is_removed_and_merged,
     a_slip_of_a_merge,
+    slips_by_number,
     words_that_are_refused,
     no_archive,
     lines_of_no_record,

@@ -1,4 +1,4 @@
-"""The numbers and names of refusals, the same wherever they are: in four crates and docs/REFUSALS.md.
+"""The numbers and names of refusals, the same wherever they are: in five crates and docs/REFUSALS.md.
 
 The crate of files and the crate of the archive each have a definition that gives a kind its number, and one
 that gives it its name; the calls `number` and `name` are proved to answer these. The crates of lines and of
@@ -16,6 +16,7 @@ LINES = "crates/gedcom_line/specs/Refusals.antt"
 FILES = "crates/gedcom_rules/specs/Refusals.antt"
 ARCHIVE = "crates/record_text/specs/Refusals.antt"
 DATES = "crates/gedcom_date/specs/Refusals.antt"
+TABLES = "crates/table_pages/specs/Faults.antt"
 DOCUMENT = "docs/REFUSALS.md"
 
 NUMBER = re.compile(r"^number_of kind\.(\w+) = ([0-9]+)$", re.MULTILINE)
@@ -58,6 +59,14 @@ def kinds_of(path):
     return {kind: (number, names[kind]) for kind, number in numbers.items()}
 
 
+def kinds_of_tables():
+    """The numbers and names of what is wrong with a table, of which several kinds may have one."""
+    text = text_of(TABLES)
+    numbers, names = dict(NUMBER.findall(text)), dict(NAME.findall(text))
+    demand(numbers.keys() == names.keys(), f"{TABLES}: {numbers.keys() ^ names.keys()} has one alone")
+    return {(int(number), names[kind]) for kind, number in numbers.items()}
+
+
 def rows():
     """The number of each name in the document."""
     found = ROW.findall(text_of(DOCUMENT))
@@ -91,6 +100,8 @@ def agree(path, table):
 def code_agrees_with_the_document():
     listed = rows()
     told = {name: number for path in (FILES, ARCHIVE) for number, name in kinds_of(path).values()}
+    for number, name in kinds_of_tables():
+        demand(told.setdefault(name, number) == number, f"{TABLES}: {name} is {number}")
     for name, number in listed.items():
         demand(told.get(name) == number, f"{DOCUMENT} has {number} {name}, the code {told.get(name)}")
     missing = sorted(

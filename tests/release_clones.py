@@ -7,6 +7,7 @@ import os
 import subprocess
 import tempfile
 
+import generated
 from harness import ROOT, demand, run, shown
 from scripts import Copy, copied
 
@@ -15,7 +16,8 @@ TARBALL, DEB = f"out/parish-{VERSION}-x86_64-linux.tar.gz", f"out/parish_{VERSIO
 NOTE = "crates/parish/out/gate"
 MANIFEST = "share/doc/parish/MANIFEST"
 COMMITTED = "2026-01-02T03:04:05+00:00"
-OURS = ("release", *(f"packaging/{name}.py" for name in ("checking", "contents", "packages", "tools")))
+SOURCES = tuple(sorted(generated.paths("crates/command_line/src/*.rt")))
+OURS = ("release", *(f"packaging/{name}.py" for name in ("checking", "completions", "contents", "packages", "tools")))
 
 PROGRAM = f"""
 #include <stdio.h>
@@ -26,8 +28,9 @@ int main(int count, char **words) {{
 """
 
 DOCUMENTS = (
-    "CHANGELOG.md", "README.md", "docs/BENCH.md", "docs/FORMATS.md", "docs/KEEPING.md", "docs/LIVING.md",
-    "docs/PROVED.md", "docs/READING-ROOM.md", "docs/REFUSALS.md", "docs/SHEETS.md", "docs/VERSIONS.md", "docs/WALK.md",
+    "CHANGELOG.md", "README.md", "docs/BENCH.md", "docs/FORMATS.md", "docs/INTERCHANGE.md", "docs/KEEPING.md",
+    "docs/LIVING.md", "docs/PROVED.md", "docs/READING-ROOM.md", "docs/REFUSALS.md", "docs/SHEETS.md",
+    "docs/VERSIONS.md", "docs/WALK.md",
 )
 SAMPLES = ("samples/README.md", "samples/note.ged")
 
@@ -81,7 +84,7 @@ def clone(folder):
     days = {"GIT_AUTHOR_DATE": COMMITTED, "GIT_COMMITTER_DATE": COMMITTED}
     path = f"{copy.env['PATH']}:{os.environ['PATH']}"
     copy.env |= {**who, **days, "PATH": path, "HOME": folder, "GIT_CONFIG_NOSYSTEM": "1", "TZ": "UTC"}
-    for name in OURS:
+    for name in (*OURS, *SOURCES):
         with open(os.path.join(ROOT, name), encoding="utf-8") as file:
             copy.write(name, file.read(), executable=name == "release")
     for name in (*DOCUMENTS, *SAMPLES, "LICENSE", "docs/DECISIONS.md"):

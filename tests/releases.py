@@ -91,11 +91,14 @@ def demand_listed(found, programs, others):
 def names_and_modes(copy):
     top = f"parish-{VERSION}-x86_64-linux"
     doc = [f"share/doc/parish/{name}" for name in IN_BOTH]
-    others = [f"{top}/{it}" for it in (*doc, "share/doc/parish/LICENSE", "share/man/man1/parish.1")]
+    shells = ("share/bash-completion/completions/parish", "share/zsh/site-functions/_parish")
+    more = (*shells, "share/doc/parish/LICENSE", "share/man/man1/parish.1")
+    others = [f"{top}/{it}" for it in (*doc, *more)]
     rows = listed(of(copy, "tar", "-tvzf", TARBALL))
     demand_listed(rows, [f"{top}/bin/parish"], others)
     demand([it[2] for it in rows] == sorted((it[2] for it in rows), key=lambda it: it.split("/")), "not sorted")
-    more = ("share/doc/parish/copyright", "share/doc/parish/changelog.gz", "share/man/man1/parish.1.gz")
+    shells = ("share/bash-completion/completions/parish", "share/zsh/vendor-completions/_parish")
+    more = (*shells, "share/doc/parish/copyright", "share/doc/parish/changelog.gz", "share/man/man1/parish.1.gz")
     rows = listed(of(copy, "dpkg-deb", "--contents", DEB))
     demand_listed(rows, ["./usr/bin/parish"], [f"./usr/{it}" for it in (*doc, *more)])
 

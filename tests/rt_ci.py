@@ -1,12 +1,17 @@
-"""Runs the kit's `rt ci` at the top of the repository, and has it work out once what it asks of each crate often.
+"""Runs the kit's `rt ci` at the top of the repository, at less cost.
 
     python3 tests/rt_ci.py
 
-`rt ci` goes every way from a crate to those below it whenever it wants to know which they are, and that of some kits
-(rattle-kit-13b) also to know what they are made from: there are 5.1 million ways here, and to read the sources on each
-is about two hours of one processor. Both answers depend on crates.txt and the sources alone, so they are remembered
-here; the run fails where one of these files differs at its end from what it was at its beginning. All else, every
-proof, edit and run, is that of `rt ci`, with its status. An `rt` that is made otherwise is run as it is.
+Each proof, run and test is that of `rt ci`, and so is its status; an `rt` that is made otherwise is run as it is.
+
+- `rt ci` goes every way from a crate to those below it whenever it wants to know which they are, and that of some kits
+  (rattle-kit-13b) also to know what they are made from: there are 5.1 million ways here, and to read the sources on
+  each is about two hours of one processor. Both answers depend on crates.txt and the sources alone, so they are
+  remembered; the run fails where one of these files differs at its end from what it was at its beginning.
+- It tries an edit by a check of the whole crate. Here the function that the edit changes is checked first, with what
+  it calls (`--only`): if that is not proved, the crate is not. Any other edit is tried as by `rt ci`.
+- It expects a check of a large crate to take two to four times the memory that was measured, and lets processors
+  wait for it. Here it expects half of that, and 0.5 GB.
 """
 
 from __future__ import annotations
@@ -16,8 +21,11 @@ import hashlib
 import importlib.machinery
 import importlib.util
 import os
+import re
 import shutil
 import sys
+
+from changed_functions import changed_function
 
 sys.dont_write_bytecode = True
 
@@ -62,6 +70,43 @@ def remembered(answer):
     return once
 
 
+def goals(lines: list[str], crate: str, path: str) -> list[str]:
+    """What a check of some functions says of the one at the path where it is not proved; else nothing."""
+    counts = re.fullmatch(r"only=(\d+) proved=(\d+)", lines[-1])
+    unproved = (f"fn {crate}::{path}: not proved", f"fn {crate}::{path}: no proof")
+    if not counts or counts[1] == counts[2] or not any(it.startswith(unproved) for it in lines):
+        return []
+    return [it for it in lines if re.match(r"note: \S+:\d+:\d+: .*not proved|\./proofs/\S+:\d+:\d+: error", it)]
+
+
+def refused_in_part(module, crate, edit: str, flags: list[str]) -> str | None:
+    """Why the function that an edit changes is not proved. None: it is, or the whole crate has to be tried."""
+    texts, why = module.read_edit(edit, crate.folder)
+    path = None if why else changed_function(texts, crate.folder)
+    if path is None:
+        return None
+    ran = module.checked(crate, texts, [*flags, "--only", path], None)
+    lines = ran.stdout.rstrip("\n").split("\n")
+    if ran.returncode != 1 or module.rtlib.STALE.search(ran.stdout) or any(module.unread(it, texts) for it in lines):
+        return None
+    # (a proof file that names what the edit took away says nothing of the contract)
+    names = r"(\./)?proofs/.*(has no field|is not in scope|has no `|was not admitted)"
+    return next((it for it in goals(lines, crate.name, path) if not re.match(names, it)), None)
+
+
+def tried(module):
+    """How an edit is tried: on its function first, and then as by `rt ci`."""
+    whole = module.must_fail
+
+    def must_fail(crate, edit, flags, kept=None):
+        why = refused_in_part(module, crate, edit, flags)
+        if why is None:
+            return whole(crate, edit, flags, kept)
+        return True, f"must-fail {crate.name}/{os.path.basename(edit)}: refused, as it must be: {why[:160]}"
+
+    return must_fail
+
+
 def main() -> int:
     path = os.path.realpath(shutil.which("rt") or "rt")
     module = loaded(path) if os.path.isfile(path) else None
@@ -69,6 +114,10 @@ def main() -> int:
         os.execvp("rt", ["rt", "ci"])
     crate = module.rtlib.Crate
     crate.below, crate.stamp = remembered(crate.below), remembered(crate.stamp)
+    module.must_fail = tried(module)
+    module.must_fail_all = lambda crate, edits, flags: [module.must_fail(crate, it, flags) for it in edits]
+    need = module.need
+    module.need = lambda crate: need(crate) / 2 + 500_000_000
     before = sources()
     status = module.main(["ci"])
     if sources() != before:

@@ -32,24 +32,30 @@ import exchanges  # noqa: E402
 import exports  # noqa: E402
 import faults  # noqa: E402
 import files  # noqa: E402
+import gate_edits  # noqa: E402
 import imports  # noqa: E402
 import layout  # noqa: E402
 import leaks  # noqa: E402
 import lists  # noqa: E402
 import memory  # noqa: E402
 import merges  # noqa: E402
+import page_commands  # noqa: E402
+import plain_exports  # noqa: E402
 import properties  # noqa: E402
 import queries  # noqa: E402
 import readme_lines  # noqa: E402
 import refusals  # noqa: E402
 import releases  # noqa: E402
+import reviews  # noqa: E402
 import rooms  # noqa: E402
 import scripts  # noqa: E402
 import sheet_commands  # noqa: E402
+import shells  # noqa: E402
 import sizes  # noqa: E402
 import stops  # noqa: E402
 import streams  # noqa: E402
 import unsound  # noqa: E402
+import until_refused  # noqa: E402
 import untouched  # noqa: E402
 import verbs  # noqa: E402
 import visitors  # noqa: E402
@@ -64,6 +70,7 @@ PARTS = (
     wants,
     devices,
     archives,
+    until_refused,
     imports,
     leaks,
     visitors,
@@ -76,6 +83,7 @@ PARTS = (
     earlier,
     merges,
     exports,
+    plain_exports,
     exchanges,
     faults,
     memory,
@@ -88,11 +96,15 @@ PARTS = (
     converted,
     scripts,
     releases,
+    reviews,
+    shells,
+    page_commands,
     documents,
     readme_lines,
     refusals,
     verbs,
     files,
+    gate_edits,
     layout,
 )
 PIECES = "tree_pieces"

@@ -259,6 +259,10 @@ STREAMS = (
     ("apply --help", told(b"parish apply ashby.db <", "apply", "--help")),
     ("apply --help tells fields", told(b"\n  event,owner,tag,value?,date?,place?\n", "apply", "--help")),
     ("apply --help tells refusals", told(b"\n  56 ChangedSince  ", "apply", "--help")),
+    ("apply --help tells --stop", told(b"\n      --stop  ", "apply", "--help")),
+    ("apply with --stop of something", refuses_words(b"'--stop", "apply", "a.db", "--stop=1")),
+    ("apply with --stop twice", refuses_words(b"--stop", "apply", "a.db", "--stop", "--stop")),
+    ("entries with --stop", refuses_words(b"'--stop'", "entries", "a.db", "--source", "1", "--token", "t", "--stop")),
     ("apply --help names the document", told(b"\ndocs/REFUSALS.md ", "apply", "--help")),
     ("init without a file", refuses_words(b"<FILE>", "init", "--society", "x")),
     ("init without a society", refuses_words(b"--society <NAME>", "init", "a.db")),
@@ -274,6 +278,25 @@ STREAMS = (
     ("entries without a file", refuses_words(b"<FILE>", "entries", "--source", "1", "--token", "t")),
     ("entries without a source", refuses_words(b"--source <N>", "entries", "a.db", "--token", "t")),
     ("entries without a token", refuses_words(b"--token <T>", "entries", "a.db", "--source", "1")),
+    ("entries --help tells tables", told(b"parish entries ashby.db --table --check", "entries", "--help")),
+    (
+        "a table that is not checked",
+        refuses_words(b"without '--check'", "entries", "a.db", "--source", "1", "--token", "t", "--table"),
+    ),
+    (
+        "a check of no table",
+        refuses_words(b"'--check' cannot be used without '--table'", "entries", "a.db", "--source", "1", "--check"),
+    ),
+    (
+        "dates of no table",
+        refuses_words(b"without '--table'", "entries", "a.db", "--source", "1", "--token", "t", "--dates", "dmy"),
+    ),
+    (
+        "dates in an order that there is not",
+        refuses_words(
+            b"'ymd' for '--dates <ORDER>'", "entries", "a.db", "--source", "1", "--table", "--check", "--dates", "ymd"),
+    ),
+    ("a table without a source", refuses_words(b"--source <N>", "entries", "a.db", "--table", "--check")),
     (
         "entries of two sources",
         refuses_words(b"--source <N>", "entries", "a.db", "--source", "1", "--source", "2", "--token", "t"),
@@ -311,6 +334,10 @@ STREAMS = (
     ("--help tells export", told(b"\n  export   Write the archive", "--help")),
     ("export --help", told(b"parish export ashby.db > ", "export", "--help")),
     ("export --help tells refusals", told(b"\n  70 ExportTooLarge  ", "export", "--help")),
+    ("export --help tells --plain", told(b"\n      --plain  ", "export", "--help")),
+    ("export with --plain twice", refuses_words(b"--plain", "export", "a.db", "--plain", "--plain")),
+    ("export with --plain and a day", refuses_words(b"--public", "export", "a.db", "--plain", "--today", "2024-01-01")),
+    ("sheet with --plain", refuses_words(b"'--plain'", "sheet", "a.db", "person", "1", "--plain")),
     ("export without a file", refuses_words(b"<FILE>", "export")),
     ("export of two files", refuses_words(b"'b.db'", "export", "a.db", "b.db")),
     ("export with a token", refuses_words(b"'--token'", "export", "a.db", "--token", "t")),

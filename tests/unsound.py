@@ -24,10 +24,12 @@ LIVING = b"Joe"  # the name of person 16, and of the one who is named in an entr
 READ = {
     "audit": (),
     "export": (),
+    "export --plain": ("--plain",),
     "days": ("--from", "0001-01-01", "--to", "9999-12-31", "--words"),
 }
 SHOWN = {
     "export --public": ("--public", *TODAY),
+    "export --plain --public": ("--plain", "--public", *TODAY),
     "sheet person": ("person", "16", *TODAY),
     "sheet family": ("family", "8", *TODAY),
     "sheet pedigree": ("pedigree", "5", *TODAY, "--generations", "12"),

@@ -21,11 +21,14 @@ TODAY = ("--today", "2024-01-01")
 RIGHT = (
     ("init", "FILE", "--society", "Ashby"),
     ("apply", "FILE"),
+    ("apply", "FILE", "--stop"),
     ("entries", "FILE", "--source", "1", "--token", "t"),
     ("import", "FILE", "--token", "t"),
     ("import", "FILE", "--progress", "--token", "t"),
     ("export", "FILE"),
     ("export", "FILE", "--public", *TODAY),
+    ("export", "FILE", "--plain"),
+    ("export", "FILE", "--plain", "--public", *TODAY),
     ("sheet", "FILE", "person", "1", *TODAY),
     ("sheet", "FILE", "pedigree", "1", "--generations", "2", *TODAY),
     ("serve", "FILE", "--port", "8080", "--count", "0", *TODAY),
@@ -34,8 +37,8 @@ RIGHT = (
     ("norm",),
     ("check",),
 )
-FLAGS = ("--progress", "--public", "--words")
-OPTIONAL = ("--progress", "--words", "--generations")
+FLAGS = ("--plain", "--progress", "--public", "--stop", "--words")
+OPTIONAL = ("--plain", "--progress", "--stop", "--words", "--generations")
 # Further wrong lines, by hand.
 WRONG = (
     (),
@@ -56,6 +59,8 @@ WRONG = (
     ("export", "FILE", *TODAY),
     ("export", "FILE", "--publick", *TODAY),
     ("export", "FILE", "--public=yes", *TODAY),
+    ("export", "FILE", "--plain", *TODAY),
+    ("export", "FILE", "--plain=yes"),
     ("export", "FILE", "--public", "2024-01-01"),
     ("export", "FILE", "--public", "--today", "2024-02-30"),
     ("serve", "FILE", "--port", "65536", "--count", "0", *TODAY),

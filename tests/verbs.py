@@ -1,7 +1,8 @@
 """The verbs of rows and the names of their fields, wherever they are: code, help, manual page and FORMATS.
 
 `names_of` of request_csv, which the lines about refused rows use, is what the others are compared with, its verbs by
-the words of `Verb::as_str` of commands. The fields of an entry are compared up to its mentions.
+the words of `Verb::as_str` of commands. The fields of an entry are compared up to its mentions. CONTRIBUTING says how
+a verb is added, and names each file of the crates that one of them, `unlink`, is in.
 """
 
 from __future__ import annotations
@@ -9,6 +10,7 @@ from __future__ import annotations
 import os
 import re
 
+import generated
 from harness import ROOT, Case, Tools, demand
 
 COLUMNS = "crates/request_csv/src/columns.rt"
@@ -16,6 +18,7 @@ WORDS = "crates/commands/src/verb.rt"
 HELP = "crates/command_line/src/texts_in.rt"
 MANUAL = "docs/parish.1"
 FORMATS = "docs/FORMATS.md"
+CONTRIBUTING = "docs/CONTRIBUTING.md"
 
 NAMES = re.compile(r'Verb::(\w+) => (?:\{\s*)?"([^"]*)"')
 IN_THE_HELP = re.compile(r"^Verbs and their fields.*?\n(.*?)\n\n", re.MULTILINE | re.DOTALL)
@@ -65,7 +68,23 @@ def are_alike(found, where):
         demand(all(same) and len(found[verb]) == len(names), f"{where}: {verb} has {found[verb]}, and not {names}")
 
 
+def files_of_unlink():
+    """The files of crates that have the verb, each as its crate and the name that CONTRIBUTING gives it."""
+    for path in generated.paths("crates/*/*/**/*.rt") + generated.paths("crates/*/*/**/*.antt"):
+        if re.search(r"\bUnlink\b|\bunlink(?:_\w+)?\b", text_of(path)):
+            yield path.split("/")[1], os.path.basename(path).removesuffix(".antt")
+
+
+def files_are_named():
+    section = text_of(CONTRIBUTING).partition("## How a command is added\n")[2].partition("\n## ")[0]
+    named = set(re.findall(r"\w+\.rt|\w+", section)) | set(re.findall(r"\w+", section))
+    found = list(files_of_unlink())
+    lost = [f"{crate}: {name}" for crate, name in found if not {crate, name} <= named]
+    demand(bool(found) and not lost, f"{CONTRIBUTING} does not name all files of a verb: {', '.join(lost)}")
+
+
 def cases(_tools: Tools):
     yield Case("verbs: the help has their fields", lambda: are_alike(of_the_help(), HELP))
     yield Case("verbs: the manual page has their fields", lambda: are_alike(of_the_manual(), MANUAL))
     yield Case("verbs: FORMATS has their fields", lambda: are_alike(of_formats(), FORMATS))
+    yield Case("verbs: CONTRIBUTING names the files of one", files_are_named)

@@ -46,6 +46,8 @@ COMMANDS = (
     Command("an import", (), ("import", "--token", "i"), LEE, (LEE_TOLD,)),
     Command("an export", ARCHIVES["register entries, linked and not"][0], ("export",)),
     Command("a public export", COUPLE, ("export", "--public", "--today", TODAY)),
+    Command("a plain export", ARCHIVES["register entries, linked and not"][0], ("export", "--plain")),
+    Command("a plain public export", COUPLE, ("export", "--plain", "--public", "--today", TODAY)),
     SHEET,
     ANEW,
 )

@@ -25,6 +25,18 @@ class File:
 
     def __init__(self, records: dict):
         self.records, self.lines, self.numbered = records, [], []
+        self.owned: dict[tuple[type, int], list] = {}
+        self.child_in: dict[int, list[int]] = {}
+        self.partner_in: dict[int, list[int]] = {}
+        for number, one in records.items():
+            match one:
+                case Event() | Citation():
+                    self.owned.setdefault((type(one), one.owner), []).append((number, one))
+                case Family():
+                    for person in dict.fromkeys(one.children):
+                        self.child_in.setdefault(person, []).append(number)
+                    for person in dict.fromkeys(person for _, person in one.partners):
+                        self.partner_in.setdefault(person, []).append(number)
 
     def name(self, number: int) -> str:
         return f"@{LETTERS[type(self.records[number])]}{number}@"
@@ -48,11 +60,8 @@ class File:
             self.line(level, "PLAC", self.path(record.place))
             self.line(level + 1, "_LOC", self.name(record.place))
 
-    def owned(self, kind, owner: int) -> list:
-        return [(number, one) for number, one in self.records.items() if isinstance(one, kind) and one.owner == owner]
-
     def citations(self, level: int, owner: int) -> None:
-        for number, one in self.owned(Citation, owner):
+        for number, one in self.owned.get((Citation, owner), ()):
             self.numbered.append(number)
             self.line(level, "SOUR", self.name(one.source))
             if one.page is not None:
@@ -62,7 +71,7 @@ class File:
             self.more(level + 1, one.more)
 
     def events(self, owner: int) -> None:
-        for number, one in self.owned(Event, owner):
+        for number, one in self.owned.get((Event, owner), ()):
             self.numbered.append(number)
             self.line(1, one.tag, one.value)
             self.dated(2, one)
@@ -79,13 +88,10 @@ class File:
         if one.sex:
             self.line(1, "SEX", one.sex)
         self.events(number)
-        families = [(at, family) for at, family in self.records.items() if isinstance(family, Family)]
-        for at, family in families:
-            if number in family.children:
-                self.line(1, "FAMC", self.name(at))
-        for at, family in families:
-            if number in [person for _, person in family.partners]:
-                self.line(1, "FAMS", self.name(at))
+        for family in self.child_in.get(number, ()):
+            self.line(1, "FAMC", self.name(family))
+        for family in self.partner_in.get(number, ()):
+            self.line(1, "FAMS", self.name(family))
         self.citations(1, number)
 
     def family(self, number: int, one: Family) -> None:

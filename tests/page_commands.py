@@ -1,0 +1,196 @@
+"""`entries --table --check` by the executable: what is wrong or doubtful in a table of register entries. What is
+expected was written by hand from docs/FORMATS.md."""
+
+from __future__ import annotations
+
+import os
+import tempfile
+
+from ends import refused_as_no_archive
+from harness import Case, Outcome, Tools, demand, expect, refused, run, written
+from lists import Listed
+
+# Rows of a new archive, which are its records 1 to 5.
+ROWS = (
+    "a,place,Kent,", "b,place,Ashby,1", "c,source,Register,,,,", "d,entry,3,BURIAL,7,1,,,,buried,Ann Lee",
+    "e,person,Ann /Lee/,F",
+)
+HEADER = "Kind,Page,Item,Date,Place,Text,Buried,Father of Groom,#own,\n"
+LONG = "x\n" * 20 + "x"
+# A row below the header, and what is found in it, without `row 2: `.
+FOUND = (
+    ("burial,8,1,6 MAY 1761,2,a text,Ann Lee", ()),
+    ("BURIAL,8,999999,1761.0,,,Ann Lee,,own", ()),
+    ("birth,8,1,,,,Ann", ("90 BadRow: Kind: birth",)),
+    ("BURIAL,8,1a,,,,Ann", ("90 BadRow: Item: 1a",)),
+    ("BURIAL,8,0,,,,Ann", ("90 BadRow: Item: 0",)),
+    ('BURIAL,8,"1,0",,,,Ann', ()),
+    ("BURIAL,8,1,5/6/1761,,,Ann", ("90 BadRow: Date: 5/6/1761",)),
+    ("BURIAL,8,1,15-Apr-10,,,Ann", ("90 BadRow: Date: 15-Apr-10",)),
+    ("BURIAL,8,1,1761-02-30,,,Ann", ("90 BadRow: Date: 1761-02-30",)),
+    ("BURIAL,8,1,at harvest,,,Ann", ("doubt: Date: words: at harvest",)),
+    ("BURIAL,8,1,#REF!,,,Ann", ("90 BadRow: Date: #REF!",)),
+    ("BURIAL,,1,,,,Ann", ("doubt: Page: no page",)),
+    ("BURIAL,12.0,1,,,,Ann", ("doubt: Page: page: 12.0",)),
+    ("BURIAL,5-Mar,1,,,,Ann", ("doubt: Page: page: 5-Mar",)),
+    ("BURIAL,8,1,,2.0,,Ann", ()),
+    ("BURIAL,8,1,,9,,Ann", ("50 NoSuch: Place: 9",)),
+    ("BURIAL,8,1,,3,,Ann", ("51 WrongKind: Place: 3",)),
+    ("BURIAL,8,1,,@b,,Ann", ()),
+    ("BURIAL,8,1,,@c,,Ann", ("51 WrongKind: Place: @c",)),
+    ("BURIAL,8,1,,@none,,Ann", ("50 NoSuch: Place: @none",)),
+    ('BURIAL,8,1,,"Ashby, Kent",,Ann', ()),
+    ('BURIAL,8,1,,"Ashby, Surrey",,Ann', ("50 NoSuch: Place: Ashby, Surrey",)),
+    (f'BURIAL,8,1,,,"{LONG}",Ann', ("doubt: Text: long: " + LONG.replace("\n", " "),)),
+    ("BURIAL,8,1,,,,", ("92 FieldCount",)),
+    ("BURIAL,8,1,,,,Ann,Tom", ("62 NotOfKind: Father of Groom: Tom",)),
+    ("BURIAL,8,1,,,,Ann,,,x", ("97 UnknownColumn: x",)),
+    ("BURIAL,8,1,,,,Ann,,,,y", ("92 FieldCount: y",)),
+    ("BURIAL,7,1,,,,Ann", ("60 DuplicateEntry: BURIAL 7 1",)),
+    ("BURIAL,,0,once,Ashby,,", (
+        "doubt: Page: no page", "90 BadRow: Item: 0", "doubt: Date: words: once", "50 NoSuch: Place: Ashby",
+        "92 FieldCount")),
+)
+# Inputs that are no table, and what standard error gets.
+UNREAD = (
+    (b"", "98 MissingColumn at row 1\n  the column is missing: kind\n"),
+    (b"kind,page,buried\n", "98 MissingColumn at row 1\n  the column is missing: item\n"),
+    (b"kind,page,item,Godfather\n", "97 UnknownColumn at row 1\n  no such column: Godfather\n"
+     "  there are kind, page, item, date, place, text and roles, like godparent 2\n"),
+    (b"kind,page,item,P\xc3\xa4te\x1b\n", "97 UnknownColumn at row 1\n  no such column: P\u00e4te \n"
+     "  there are kind, page, item, date, place, text and roles, like godparent 2\n"),
+    (b"kind,page,item, PAGE\n", "97 UnknownColumn at row 1\n  the column stands twice: PAGE\n"),
+    (b"kind,page,item,buried\nBURIAL,8,1,Ann\n\nBURIAL,8,2,Andr\xe9\n",
+     '90 BadRow at row 4\n  not UTF-8: save the sheet as "CSV UTF-8"\n'),
+    (b'kind,page,item,buried\nBURIAL,8,1,Ann\nBURIAL,8,2,"Tom\nBURIAL,8,3,Eva\n',
+     "90 BadRow at row 3\n  a quote that begins there is not closed\n"),
+)
+MOST = 67_108_864
+
+
+class Checked(Listed):
+    def check(self, given, *words, source="3", **how):
+        words = ("entries", self.file, "--table", "--check", "--source", source, *words)
+        return run(self.parish, words, given, **how)
+
+
+def page(*rows):
+    return (HEADER + "".join(f"{row}\n" for row in rows)).encode()
+
+
+def found(rows, lines):
+    """What is printed of so many rows: these lines, of which each begins with its row, and their sum."""
+    doubtful = {line.split(":")[0] for line in lines if ": doubt: " in line}
+    wrong = {line.split(":")[0] for line in lines if ": doubt: " not in line}
+    out = "".join(f"{line}\n" for line in lines) + f"{rows} rows, {len(wrong)} wrong, {len(doubtful)} doubtful\n"
+    return Outcome(out.encode(), b"", 1 if wrong else 0)
+
+
+def each_cell(tools):
+    """What is found in a row; the archive is as it was."""
+    with Checked(tools) as at:
+        before = at.with_rows(ROWS).tables()
+        for row, lines in FOUND:
+            got = at.check(page(row))
+            demand(got == found(1, [f"row 2: {line}" for line in lines]), f"{row!r}: {got}")
+        demand(at.tables() == before, "the tables changed")
+
+
+def a_page(tools):
+    """Rows have the numbers of the sheet, and each is looked at, whatever is wrong with those before it."""
+    with Checked(tools) as at:
+        before = at.with_rows(ROWS).tables()
+        rows = ("BURIAL,8,1,,,,Ann", "", "burial,8,1.0,,9,,Tom", '"BURIAL",8,2,,,"two\nlines",Eva', "x,,,,,,",
+                "BURIAL,8,2,once,,,Eva")
+        lines = ("row 4: 50 NoSuch: Place: 9", "row 4: 60 DuplicateEntry: BURIAL 8 1", "row 6: 90 BadRow: Kind: x",
+                 "row 6: doubt: Page: no page", "row 6: 90 BadRow: Item", "row 6: 92 FieldCount",
+                 "row 7: doubt: Date: words: once", "row 7: 60 DuplicateEntry: BURIAL 8 2")
+        expect(at.check(page(*rows)), found(5, lines))
+        expect(at.check(page()), found(0, ()))
+        expect(at.check(page(*rows), "--token", "page-8"), found(5, lines))
+        demand(at.tables() == before, "the tables changed")
+
+
+def orders_of_dates(tools):
+    with Checked(tools) as at:
+        at.with_rows(ROWS)
+        for order, date, is_wrong in (
+            ("dmy", "31/12/1761", False), ("dmy", "12/31/1761", True), ("mdy", "12/31/1761", False),
+            ("mdy", "31.12.1761", True), ("dmy", "5-6-1761", False), ("dmy", "5/6/61", True),
+        ):
+            lines = [f"row 2: 90 BadRow: Date: {date}"] if is_wrong else []
+            expect(at.check(page(f"BURIAL,8,1,{date},,,Ann"), "--dates", order), found(1, lines))
+
+
+def what_a_spreadsheet_writes(tools):
+    """Other separators, line ends and marks."""
+    with Checked(tools) as at:
+        at.with_rows(ROWS)
+        for given in (
+            b"\xef\xbb\xbfkind;page;item;buried\r\nBURIAL;8;1;Ann\r\n",
+            b"kind\tpage\titem\tburied\rBURIAL\t8\t1\tAnn\r",
+            b"sep=|\nkind|page|item|buried 2\nBURIAL|8|1|Ann",
+        ):
+            expect(at.check(given), found(1, ()))
+
+
+def no_table(tools):
+    """What cannot be read as a table: a refusal with a hint, and nothing on standard output."""
+    with Checked(tools) as at:
+        before = at.with_rows(ROWS).tables()
+        for given, text in UNREAD:
+            got = at.check(given)
+            demand(got == Outcome(b"", f"parish: {text}".encode(), 1), f"{given!r}: {got}")
+        demand(at.tables() == before, "the tables changed")
+
+
+def refusals(tools):
+    """50 and 51 of the source, 40 where somebody else has spoilt it, 95 at a full device, 94 of an input that cannot be
+    read, 27 of one that is too large."""
+    good = page("BURIAL,8,1,,,,Ann")
+    with Checked(tools) as at:
+        before = at.with_rows(ROWS).tables()
+        expect(at.check(good, source="9"), refused(50))
+        expect(at.check(good, source="2"), refused(51))
+        with open("/dev/full", "wb") as full:
+            expect(at.check(good, stdout=full), refused(95))
+        folder = os.open(tempfile.gettempdir(), os.O_RDONLY)
+        expect(at.check(b"", stdin=folder), refused(94))
+        os.close(folder)
+        blank = b"\n" * (MOST + 1 - len(good))
+        expect(at.check(good + blank), refused(27))
+        demand(at.tables() == before, "the tables changed")
+        at.other_database("UPDATE line SET tag = 'frob' WHERE no = 3")
+        expect(at.check(good), refused(40))
+
+
+def no_archive(tools):
+    refused_as_no_archive(Checked, tools, lambda at: at.check(page("BURIAL,8,1,,,,Ann")))
+
+
+def then_entered(tools):
+    """What a check has found nothing in is entered by the rows of a batch."""
+    with Checked(tools) as at:
+        at.with_rows(ROWS)
+        expect(at.check(page("BURIAL,8,1,6 MAY 1761,2,,Ann Lee")), found(1, ()))
+        words = ("entries", at.file, "--source", "3", "--token", "page-8")
+        expect(run(at.parish, words, b"BURIAL,8,1,6 MAY 1761,2,,buried,Ann Lee\n"), written(
+            b"made 1 entries, first 6\n"))
+        expect(at.check(page("BURIAL,8,1,6 MAY 1761,2,,Ann Lee")), found(1, ["row 2: 60 DuplicateEntry: BURIAL 8 1"]))
+
+
+TESTS = (
+    each_cell,
+    a_page,
+    orders_of_dates,
+    what_a_spreadsheet_writes,
+    no_table,
+    refusals,
+    no_archive,
+    then_entered,
+)
+
+
+def cases(tools: Tools):
+    for test in TESTS:
+        yield Case(f"tables: {test.__name__.replace('_', ' ')}", lambda test=test: test(tools))
