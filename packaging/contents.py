@@ -11,18 +11,23 @@ import os
 import re
 from dataclasses import dataclass
 
+from completions import bash, zsh
 from tools import Missing, bytes_of, output, without_names
 
 PROGRAM = "bin/parish"
 MANUAL = "share/man/man1/parish.1"
 DOCUMENTS = "share/doc/parish"
+BASH = "share/bash-completion/completions/parish"
+ZSH = "share/zsh/site-functions/_parish"
+ZSH_OF_DEBIAN = "share/zsh/vendor-completions/_parish"
 MANIFEST = f"{DOCUMENTS}/MANIFEST"
 MAINTAINER = "Jorwethan maintainers <maintainers@users.noreply.jorwethan.example>"
 
 # What users of the program read; the other documents are for those who change it, and are in the source.
 FOR_USERS = (
-    "README.md", "CHANGELOG.md", "docs/BENCH.md", "docs/FORMATS.md", "docs/KEEPING.md", "docs/LIVING.md",
-    "docs/PROVED.md", "docs/READING-ROOM.md", "docs/REFUSALS.md", "docs/SHEETS.md", "docs/VERSIONS.md", "docs/WALK.md",
+    "README.md", "CHANGELOG.md", "docs/BENCH.md", "docs/FORMATS.md", "docs/INTERCHANGE.md", "docs/KEEPING.md",
+    "docs/LIVING.md", "docs/PROVED.md", "docs/READING-ROOM.md", "docs/REFUSALS.md", "docs/SHEETS.md",
+    "docs/VERSIONS.md", "docs/WALK.md",
 )
 
 LIBRARIES = """\
@@ -105,6 +110,7 @@ def for_tarball(release):
     files = {f"{DOCUMENTS}/{name}": data for name, data in documents(release).items()}
     files[f"{DOCUMENTS}/LICENSE"] = bytes_of(os.path.join(release.root, "LICENSE"))
     files[MANUAL] = bytes_of(os.path.join(release.root, "docs", "parish.1"))
+    files[BASH], files[ZSH] = bash(release.root).encode(), zsh(release.root).encode()
     files[PROGRAM] = release.program
     return with_manifest(release, files)
 
@@ -120,6 +126,7 @@ def for_debian(release):
     files[f"{DOCUMENTS}/copyright"] = bytes_of(os.path.join(release.root, "LICENSE"))
     files[f"{DOCUMENTS}/changelog.gz"] = without_names(debian_changelog(release))
     files[f"{MANUAL}.gz"] = without_names(bytes_of(os.path.join(release.root, "docs", "parish.1")))
+    files[BASH], files[ZSH_OF_DEBIAN] = bash(release.root).encode(), zsh(release.root).encode()
     files[PROGRAM] = release.program
     return with_manifest(release, files)
 
