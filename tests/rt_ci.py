@@ -4,6 +4,9 @@
 
 Each proof, run and test is that of `rt ci`, and so is its status; an `rt` that is made otherwise is run as it is.
 
+- What an earlier run on this machine proved or refused, of the very same sources and kit, is taken from it, as by the
+  `rt ci` of newer kits (kept_proofs.py). PARISH_GATE_ANEW=1 has all proved from nothing.
+
 - `rt ci` goes every way from a crate to those below it whenever it wants to know which they are, and that of some kits
   (rattle-kit-13b) also to know what they are made from: there are 5.1 million ways here, and to read the sources on
   each is about two hours of one processor. Both answers depend on crates.txt and the sources alone, so they are
@@ -26,6 +29,7 @@ import shutil
 import sys
 
 from changed_functions import changed_function
+from kept_proofs import KeptProofs
 
 sys.dont_write_bytecode = True
 
@@ -94,17 +98,56 @@ def refused_in_part(module, crate, edit: str, flags: list[str]) -> str | None:
     return next((it for it in goals(lines, crate.name, path) if not re.match(names, it)), None)
 
 
-def tried(module):
-    """How an edit is tried: on its function first, and then as by `rt ci`."""
+def tried(module, store: KeptProofs | None = None):
+    """How an edit is tried, where no earlier run refused it: on its function first, and then as by `rt ci`."""
     whole = module.must_fail
 
-    def must_fail(crate, edit, flags, kept=None):
+    def anew(crate, edit, flags, kept):
         why = refused_in_part(module, crate, edit, flags)
         if why is None:
             return whole(crate, edit, flags, kept)
         return True, f"must-fail {crate.name}/{os.path.basename(edit)}: refused, as it must be: {why[:160]}"
 
+    def must_fail(crate, edit, flags, kept=None):
+        known = store and store.refusal(crate, edit)
+        if known:
+            return True, f"{known} (an earlier run)"
+        refused, said = anew(crate, edit, flags, kept)
+        if refused and store:
+            store.keep_refusal(crate, edit, said)
+        return refused, said
+
     return must_fail
+
+
+def own_sources(crate) -> list:
+    """The files that the crate itself is made of, with their texts."""
+    found = []
+    for at, folders, files in os.walk(crate.folder):
+        folders[:] = sorted(it for it in folders if it != "out")
+        for name in sorted(files):
+            with open(os.path.join(at, name), "rb") as file:
+                found.append((at, name, file.read()))
+    return found
+
+
+def keeping(prove, store: KeptProofs):
+    """A crate's proof that is taken from an earlier run where its sum is the same, and kept where it passed."""
+
+    @functools.wraps(prove)
+    def ci(crate, flags, tests):
+        said = store.give(crate, tests)
+        if said is not None:
+            print(f"rt_ci: proved by an earlier run on this machine, of the same sum\n{said}", end="", file=crate.out)
+            return 0
+        at, before = crate.out.seek(0, os.SEEK_END), own_sources(crate)
+        status = prove(crate, flags, tests)
+        if status == 0 and own_sources(crate) == before:
+            crate.out.seek(at)
+            store.keep(crate, tests, crate.out.read())
+        return status
+
+    return ci
 
 
 def main() -> int:
@@ -114,13 +157,20 @@ def main() -> int:
         os.execvp("rt", ["rt", "ci"])
     crate = module.rtlib.Crate
     crate.below, crate.stamp = remembered(crate.below), remembered(crate.stamp)
-    module.must_fail = tried(module)
+    store = None if hasattr(module, "Kept") else KeptProofs(module, os.getcwd())
+    if store:
+        module.Crate.ci = keeping(module.Crate.ci, store)
+    module.must_fail = tried(module, store)
     module.must_fail_all = lambda crate, edits, flags: [module.must_fail(crate, it, flags) for it in edits]
     need = module.need
     module.need = lambda crate: need(crate) / 2 + 500_000_000
     before = sources()
     status = module.main(["ci"])
+    if store:
+        print(f"rt_ci: of an earlier run on this machine: {store.summary()}")
     if sources() != before:
+        if store:
+            store.forget()
         print("rt_ci: a source has changed while it was proved\n0 passed, 1 failed")
         return 1
     return status

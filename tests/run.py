@@ -34,6 +34,7 @@ import faults  # noqa: E402
 import files  # noqa: E402
 import gate_edits  # noqa: E402
 import imports  # noqa: E402
+import kept_gate  # noqa: E402
 import layout  # noqa: E402
 import leaks  # noqa: E402
 import lists  # noqa: E402
@@ -72,6 +73,7 @@ PARTS = (
     archives,
     until_refused,
     imports,
+    kept_gate,
     leaks,
     visitors,
     sheet_commands,
