@@ -10,7 +10,7 @@ tried as the gate does (rt_ci.py), and so is one that no turn decided (a functio
 calls is not proved). `--gate` takes those of the crates' folders must-fail too. Each crate has a line at its end; the
 last line is `N passed, M failed`.
 
-Libraries below the crates have to be there, or are built first, as by `rt check`.
+Libraries below the crates are those that the gate keeps, or are proved first.
 """
 
 from __future__ import annotations
@@ -184,15 +184,14 @@ def main(words: list[str]) -> int:
     if module is None or not names:
         print(__doc__)
         return 1
-    crate = module.rtlib.Crate
-    crate.below, crate.stamp = rt_ci.remembered(crate.below), rt_ci.remembered(crate.stamp)
-    module.rtlib.guarded()
-    module.must_fail = rt_ci.tried(module)
-    every = {it.name: it for it in module.rtlib.crates_below(alone.ROOT)}
+    os.chdir(alone.ROOT)
+    crates = rt_ci.crates(module, alone.ROOT)
+    rt_ci.kept_by(module, alone.ROOT)
+    every = {it.name: it for it in crates}
     passed = failed = 0
     for name in names:
         one = copy.copy(every[name])
-        if any(dep.build_rlib(["--jobs", "1"], anew=False) for dep in one.below()):
+        if not alone.has_libraries(module, crates, one):
             return 1
         refused, through = try_crate(module, one, "--gate" in words, jobs)
         passed, failed = passed + refused, failed + through

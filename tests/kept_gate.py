@@ -22,10 +22,18 @@ class Library:
     name: str = "register"
 
     def stamp(self):
-        return self.sum
+        return f"{self.sum} {text_of(f'{self.folder}/src/lib.rt')}"
+
+    def below(self):
+        return []
 
     def makes_rlib(self):
         return True
+
+
+def library(*given):
+    """One whose sum is worked out once, as in a run of the gate."""
+    return type("Remembered", (Library,), {"stamp": rt_ci.remembered(Library.stamp)})(*given)
 
 
 def write(path: str, text: str) -> None:
@@ -64,7 +72,7 @@ class Room:
     def gate(self, sum="a", prove=None):
         """A run of the gate in a clone of its own: its status, and what it said."""
         with tempfile.TemporaryFile("a+") as out:
-            crate = Library(f"{self.top}/register", sum, out)
+            crate = library(f"{self.top}/register", sum, out)
             status = rt_ci.keeping(prove or self.prove, self.store())(crate, [], False)
             out.seek(0)
             return status, out.read()
@@ -101,7 +109,7 @@ def what_differs_is_proved(room):
 def a_damaged_one_is_proved(room):
     room.gate()
     store = room.store()
-    place = store.place(Library(f"{room.top}/register", "a"), "proof")
+    place = store.place(library(f"{room.top}/register", "a"), "proof")
     for count, name in enumerate(("made/rlib/register.rlib/lib", "said", "sums", "made/rlib/register.rlib/more"), 2):
         write(f"{place}/{name}", "changed")
         room.gate()
@@ -122,6 +130,7 @@ def a_changed_source_is_not_kept(room):
         return room.prove(crate, flags, tests)
 
     room.gate(prove=prove)
+    write(f"{room.top}/register/src/lib.rt", "fn pages() {}")
     room.gate()
     demand(room.runs == 2, "a proof was kept though its source changed under it")
 
@@ -134,11 +143,11 @@ def nothing_is_taken_anew(room):
 
 
 def an_edit_is_taken_by_its_text(room):
-    crate, edit = Library(f"{room.top}/register", "a"), f"{room.top}/one.edit"
+    crate, edit = library(f"{room.top}/register", "a"), f"{room.top}/one.edit"
     write(edit, "file: src/lib.rt")
     room.store().keep_refusal(crate, edit, "refused")
     demand(room.store().refusal(crate, edit) == "refused", "the edit is not known")
-    demand(room.store().refusal(Library(crate.folder, "b"), edit) is None, "it is known over other sources")
+    demand(room.store().refusal(library(crate.folder, "b"), edit) is None, "it is known over other sources")
     write(edit, "file: src/main.rt")
     demand(room.store().refusal(crate, edit) is None, "another edit of its name is known")
 

@@ -44,21 +44,21 @@ def is_given(kept, crate) -> bool:
     return True
 
 
+def lacking_below(module, every, names: list[str]) -> list:
+    """Puts each library below the named crates into its place where it is kept; those that are not, lowest first."""
+    below = {one.name for it in every if it.name in names for one in it.below()}
+    libraries = [it for it in every if it.name in below and not it.is_program]
+    kept = module.Kept(libraries, False) if hasattr(module, "Kept") else KeptProofs(module, os.getcwd())
+    return [it for it in libraries if not it.is_built() and not is_given(kept, it)]
+
+
 def main(names: list[str]) -> int:
     module = rt_ci.loaded(os.path.realpath(shutil.which("rt") or "rt"))
     if module is None or not names:
         print(__doc__)
         return 1
-    crate = module.rtlib.Crate
-    crate.below, crate.stamp = rt_ci.remembered(crate.below), rt_ci.remembered(crate.stamp)
-    module.Crate.cuts_libraries = True
-    module.Crate.allowed = module.handles_of(os.getcwd())
-    every = module.crates_of(os.getcwd())
-    below = {one.name for it in every if it.name in names for one in it.below()}
-    libraries = [it for it in every if it.name in below and not it.is_program]
-    kept = module.Kept(libraries, False) if hasattr(module, "Kept") else KeptProofs(module, os.getcwd())
-    lacking = [it.name for it in libraries if not is_given(kept, it)]
-    print(f"{len(libraries) - len(lacking)} libraries are in their places; not kept: {' '.join(lacking) or 'none'}")
+    lacking = lacking_below(module, rt_ci.crates(module, os.getcwd()), names)
+    print(f"not kept: {' '.join(it.name for it in lacking) or 'none'}")
     return 0
 
 

@@ -113,22 +113,27 @@ def tried(module, store: KeptProofs | None = None):
         if known:
             return True, f"{known} (an earlier run)"
         refused, said = anew(crate, edit, flags, kept)
-        if refused and store:
+        if refused and store and is_unchanged(crate):
             store.keep_refusal(crate, edit, said)
         return refused, said
 
     return must_fail
 
 
-def own_sources(crate) -> list:
-    """The files that the crate itself is made of, with their texts."""
-    found = []
-    for at, folders, files in os.walk(crate.folder):
-        folders[:] = sorted(it for it in folders if it != "out")
-        for name in sorted(files):
-            with open(os.path.join(at, name), "rb") as file:
-                found.append((at, name, file.read()))
-    return found
+def is_unchanged(crate) -> bool:
+    """Whether the crate and each library below it are still as they were when their sums were worked out."""
+    stamp = type(crate).stamp.__wrapped__
+    return all(stamp(it) == it.stamp() for it in [crate, *crate.below()])
+
+
+def crates(module, root: str) -> list:
+    """The crates as `rt ci` sees them, lowest first: proved as by it, with what its HANDLES allows."""
+    one = module.Crate
+    one.below, one.stamp = remembered(one.below), remembered(one.stamp)
+    one.cuts_libraries, one.allowed = True, module.handles_of(root)
+    module.rtlib.Crate = one
+    module.rtlib.guarded()
+    return sorted(module.rtlib.crates_below(root), key=lambda it: len(it.below()))
 
 
 def keeping(prove, store: KeptProofs):
@@ -140,14 +145,23 @@ def keeping(prove, store: KeptProofs):
         if said is not None:
             print(f"rt_ci: proved by an earlier run on this machine, of the same sum\n{said}", end="", file=crate.out)
             return 0
-        at, before = crate.out.seek(0, os.SEEK_END), own_sources(crate)
+        at = crate.out.seek(0, os.SEEK_END)
         status = prove(crate, flags, tests)
-        if status == 0 and own_sources(crate) == before:
+        if status == 0 and is_unchanged(crate):
             crate.out.seek(at)
             store.keep(crate, tests, crate.out.read())
         return status
 
     return ci
+
+
+def kept_by(module, root: str) -> KeptProofs | None:
+    """Has proofs and edits kept, and taken from earlier runs; None where the kit does that."""
+    store = None if hasattr(module, "Kept") else KeptProofs(module, root)
+    if store:
+        module.Crate.ci = keeping(module.Crate.ci, store)
+    module.must_fail = tried(module, store)
+    return store
 
 
 def main() -> int:
@@ -157,10 +171,7 @@ def main() -> int:
         os.execvp("rt", ["rt", "ci"])
     crate = module.rtlib.Crate
     crate.below, crate.stamp = remembered(crate.below), remembered(crate.stamp)
-    store = None if hasattr(module, "Kept") else KeptProofs(module, os.getcwd())
-    if store:
-        module.Crate.ci = keeping(module.Crate.ci, store)
-    module.must_fail = tried(module, store)
+    store = kept_by(module, os.getcwd())
     module.must_fail_all = lambda crate, edits, flags: [module.must_fail(crate, it, flags) for it in edits]
     need = module.need
     module.need = lambda crate: need(crate) / 2 + 500_000_000
