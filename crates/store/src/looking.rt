@@ -1,12 +1,20 @@
 //! An archive that is only looked at, with an import set aside that is open on it.
 
 ghost use Rattle.std.specs.Prelude.{◌≡◌, None};
+ghost use Rattle.store.specs.Standing.{shuts};
 
 use crate::archive::Archive;
 use sqlite::Alter;
 use staging::OpenImport;
 
 impl<S: Alter> Archive<S> {
+    /// Whether it takes no requests: an import is open on it, or it has to be opened again.
+    pub fn is_shut(&self) -> bool
+        ensures { result ≡ shuts self.now.is_lost self.now.import }
+    {
+        self.import.is_some() || self.is_lost
+    }
+
     /// Before looks, which see nothing of an import that is open: takes it off the archive, and counts the looks that
     /// fail from 0. The import is to be put back before any other call.
     pub fn set_aside(&mut self) -> Option<OpenImport>
