@@ -35,7 +35,7 @@ LAWS_SAID = {
     "file": "store: a_stop_loses_nothing a_stop_loses_nothing_of_either_version",
     "requests": "archive_core: a_refused_request_changes_nothing a_receipt_is_kept_for_good "
     "a_request_keeps_an_archive_sound a_run_keeps_an_archive_sound an_answer_has_the_numbers_drawn "
-    "no_number_is_used_twice; archive_input: a_row_asks_for_one_thing; "
+    "no_number_is_used_twice; archive_input: a_row_asks_for_one_thing a_row_without_references_is_served_as_it_is; "
     "entry_batches: a_batch_is_the_commands_of_its_rows; "
     "merging: a_merge_is_undone an_undoing_is_done_where_nothing_changed_since; "
     "commands: two_commands_have_other_bytes",

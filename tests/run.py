@@ -45,6 +45,7 @@ import plain_exports  # noqa: E402
 import properties  # noqa: E402
 import queries  # noqa: E402
 import readme_lines  # noqa: E402
+import references  # noqa: E402
 import refusals  # noqa: E402
 import releases  # noqa: E402
 import reviews  # noqa: E402
@@ -72,6 +73,7 @@ PARTS = (
     devices,
     archives,
     until_refused,
+    references,
     imports,
     kept_gate,
     leaks,

@@ -21,6 +21,7 @@ use Rattle.std.proofs.KnownBytes.{Appends-nil}
 use Rattle.sqlite_trees.specs.declared.store.Store.{Ghosts}
 use Rattle.record_text.specs.declared.refusal.RefusalKind.{RefusalKind}
 use Rattle.request_csv.specs.Faults.{fault_text}
+use Rattle.request_csv.specs.Input.{Row}
 use Rattle.archive_input.specs.Answers.{Served}
 use Rattle.archive_input.specs.RowByRow.{AreTold, IsTold, Moment, Serves, ServesAll}
 
@@ -38,43 +39,49 @@ pub wants : (number : ℕ) (kind : RefusalKind) (told : Option (List ℕ)) → I
 wants number kind told = (fault_text number kind [], ([], refl), (0, omega arith, Appends-nil told))
 
 -- ---- rows one after the other
-pub none_more : (served : List Served) → served ≡ served ++ []
-none_more [] = refl
-none_more (s ∷ served) = ap (λ (more : List Served). s ∷ more) (none_more served)
+pub none_more : {A : Type 0} (served : List A) → served ≡ served ++ []
+none_more {A} [] = refl
+none_more {A} (s ∷ served) = ap (λ (more : List A). s ∷ more) (none_more served)
 
 module _ {S W F : Type 0} (g : Ghosts S) (written : W → Option (List ℕ)) (told : F → Option (List ℕ)) where
-  pub all_more : (n k : ℕ) (served : List Served) (s : Served) (a m b : Moment g W F) → k ≡ n + length served
-      → ServesAll g written told n served a m → Serves g written told k s m b
-      → ServesAll g written told n (served ++ s ∷ []) a b
-  all_more n k [] s a m b e all one = (
+  pub all_more : (n k : ℕ) (rows : List Row) (served : List Served) (row : Row) (s : Served) (a m b : Moment g W F)
+      → k ≡ n + length served → ServesAll g written told n rows served a m → Serves g written told k row s m b
+      → ServesAll g written told n (rows ++ row ∷ []) (served ++ s ∷ []) a b
+  all_more n k [] [] row s a m b e all one = (
     b,
-    subst (λ (x : Moment g W F). Serves g written told n s x b) all
-        (subst (λ (x : ℕ). Serves g written told x s m b) (omega (arith, e)) one),
+    subst (λ (x : Moment g W F). Serves g written told n row s x b) all
+        (subst (λ (x : ℕ). Serves g written told x row s m b) (omega (arith, e)) one),
     refl,
   )
-  all_more n k (x ∷ xs) s a m b e all one = (
+  all_more n k [] (x ∷ xs) row s a m b e all one = absurd all
+  all_more n k (y ∷ ys) [] row s a m b e all one = absurd all
+  all_more n k (y ∷ ys) (x ∷ xs) row s a m b e all one = (
     all.0,
     all.1,
-    all_more (n + 1) k xs s all.0 m b (omega (arith, e)) all.2 one,
+    all_more (n + 1) k ys xs row s all.0 m b (omega (arith, e)) all.2 one,
   )
 
   -- this many rows were served so, from the first on
-  pub record InTurn (count : ℕ) (a b : Moment g W F) (served : List Served) : Type 0 where
+  pub record InTurn (count : ℕ) (a b : Moment g W F) (rows : List Row) (served : List Served) : Type 0 where
     pub counted : count ≡ length served
-    pub all : ServesAll g written told 1 served a b
+    pub all : ServesAll g written told 1 rows served a b
 
-  pub turn_none : (a : Moment g W F) → InTurn 0 a a []
+  pub turn_none : (a : Moment g W F) → InTurn 0 a a [] []
   turn_none a = record { counted = refl; all = refl }
 
-  pub turn_more : (count : ℕ) (served : List Served) (s : Served) (a m b : Moment g W F) → InTurn count a m served
-      → Serves g written told (count + 1) s m b → InTurn (count + 1) a b (served ++ s ∷ [])
-  turn_more count served s a m b turn one = record {
+  pub turn_more : (count : ℕ) (rows : List Row) (served : List Served) (row : Row) (s : Served)
+      (a m b : Moment g W F) → InTurn count a m rows served → Serves g written told (count + 1) row s m b
+      → InTurn (count + 1) a b (rows ++ row ∷ []) (served ++ s ∷ [])
+  turn_more count rows served row s a m b turn one = record {
     counted = rw (length-append) (omega (arith, turn.counted));
-    all = all_more 1 (count + 1) served s a m b (omega (arith, turn.counted)) turn.all one;
+    all = all_more 1 (count + 1) rows served row s a m b (omega (arith, turn.counted)) turn.all one;
   }
 
   -- what is reported of rows that were served so
-  pub all_told : (n : ℕ) (served : List Served) (a b : Moment g W F) → ServesAll g written told n served a b
-      → AreTold n served (told a.faults) (told b.faults)
-  all_told n [] a b all = ap (λ (m : Moment g W F). told m.faults) all
-  all_told n (s ∷ served) a b all = (told all.0.faults, all.1.faulted, all_told (n + 1) served all.0 b all.2)
+  pub all_told : (n : ℕ) (rows : List Row) (served : List Served) (a b : Moment g W F)
+      → ServesAll g written told n rows served a b → AreTold n served (told a.faults) (told b.faults)
+  all_told n [] [] a b all = ap (λ (m : Moment g W F). told m.faults) all
+  all_told n [] (s ∷ served) a b all = absurd all
+  all_told n (row ∷ rows) [] a b all = absurd all
+  all_told n (row ∷ rows) (s ∷ served) a b all =
+      (told all.0.faults, all.1.faulted, all_told (n + 1) rows served all.0 b all.2)

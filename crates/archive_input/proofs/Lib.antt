@@ -1,3 +1,4 @@
+mod Asked
 mod Entered
 mod Firsts
 pub mod InTurn
@@ -7,6 +8,7 @@ mod Outcomes
 pub mod Refusals
 pub mod Refused
 mod Served
+mod Stepped
 mod Stopped
 mod Imported
 pub mod Told

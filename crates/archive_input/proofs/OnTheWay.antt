@@ -43,12 +43,14 @@ use Rattle.archive_input.specs.Answers.{Served, answer_text}
 use Rattle.archive_input.specs.Applying.{
   AppliedOf,
   AreServed,
+  AreServedIn,
   Ended,
   Ends,
   IsServed,
+  IsServedIn,
   PerformsAll,
   RefusesAll,
-  Steps,
+  StepsRow,
   WritesPart,
   answers,
   calls_of,
@@ -62,6 +64,7 @@ use Rattle.archive_input.proofs.Served.{
   answers_sure,
   certain_more,
   kept_more,
+  numbers_more,
   performed_more,
   refused_more,
   served_more,
@@ -91,6 +94,7 @@ pub record OnTheWay {S : Type 0} (g : Ghosts S) (known left : Option (List ℕ))
   pub served : List Served
   pub took : Took known rows at left
   pub each : AreServed rows served
+  pub numbers : AreServedIn g rows served old new
   pub certain : in_doubt (calls_of served) ≡ None
   pub kept : is_shut old ≡ false → is_shut new ≡ false
   pub performed : PerformsAll g old (calls_of served) new
@@ -99,19 +103,22 @@ pub record OnTheWay {S : Type 0} (g : Ghosts S) (known left : Option (List ℕ))
 
 -- of the rows that were served P is said beside it
 abbrev pub OnTheWayWith : {S : Type 0} (g : Ghosts S) (known left : Option (List ℕ)) (at : State)
-    (before after : Option (List ℕ)) (old new : Archive S g) → (List Served → Type 0) → Type 0
-OnTheWayWith g known left at before after old new P = (w : OnTheWay g known left at before after old new) × P w.served
+    (before after : Option (List ℕ)) (old new : Archive S g) → (List Row → List Served → Type 0) → Type 0
+OnTheWayWith g known left at before after old new P =
+    (w : OnTheWay g known left at before after old new) × P w.rows w.served
 
 abbrev pub AppliedWith : (Option (List ℕ) → List Row → Type 0) → {S : Type 0} (g : Ghosts S)
-    (known before after : Option (List ℕ)) (old new : Archive S g) → (List Served → Type 0) → Type 0
-AppliedWith AreOf g known before after old new P = (all : AppliedOf AreOf g known before after old new) × P all.served
+    (known before after : Option (List ℕ)) (old new : Archive S g) → (List Row → List Served → Type 0) → Type 0
+AppliedWith AreOf g known before after old new P =
+    (all : AppliedOf AreOf g known before after old new) × P all.rows all.served
 
 abbrev pub EndedWith : {S : Type 0} (g : Ghosts S) (kind : RefusalKind) (known before after : Option (List ℕ))
-    (old new : Archive S g) → (List Served → Type 0) → Type 0
-EndedWith g kind known before after old new P = (part : Ended g kind known before after old new) × P part.served
+    (old new : Archive S g) → (List Row → List Served → Type 0) → Type 0
+EndedWith g kind known before after old new P =
+    (part : Ended g kind known before after old new) × P part.rows part.served
 
 pub at_start : {S : Type 0} (g : Ghosts S) (known out : Option (List ℕ)) (archive : Archive S g)
-    (P : List Served → Type 0) → PerformsAll g archive [] archive → P []
+    (P : List Row → List Served → Type 0) → PerformsAll g archive [] archive → P [] []
     → OnTheWayWith g known known st.StartRecord out out archive archive P
 at_start g known out archive P none p = (
   record {
@@ -119,6 +126,7 @@ at_start g known out archive P none p = (
     served = [];
     took = took_none known;
     each = tt;
+    numbers = λ clean was society c has. tt;
     certain = refl;
     kept = λ was. was;
     performed = none;
@@ -132,33 +140,36 @@ module _ {S : Type 0} (g : Ghosts S) (known left : Option (List ℕ)) (at : Stat
     (old now : Archive S g) (w : OnTheWay g known left at before after old now) where
   -- a row more, which was answered
   pub one_more : (row : Row) (next : Archive S g) (rest out : Option (List ℕ)) (s : Served) (to : State)
-      → Took known (w.rows ++ row ∷ []) to rest → IsServed row s → Steps g s now next → is_in_doubt s ≡ false
-      → Appends after out (answer_text s) → (P : List Served → Type 0) → P (w.served ++ s ∷ [])
-      → OnTheWayWith g known rest to before out old next P
-  one_more row next rest out s to took is steps sure wrote P p = (
+      → Took known (w.rows ++ row ∷ []) to rest → IsServed row s → IsServedIn g row s now next
+      → StepsRow g row s now next → is_in_doubt s ≡ false
+      → Appends after out (answer_text s) → (P : List Row → List Served → Type 0)
+      → P (w.rows ++ row ∷ []) (w.served ++ s ∷ []) → OnTheWayWith g known rest to before out old next P
+  one_more row next rest out s to took is asked steps sure wrote P p = (
     record {
       rows = w.rows ++ row ∷ [];
       served = w.served ++ s ∷ [];
       took = took;
       each = served_more w.rows w.served row s w.each is;
+      numbers = numbers_more g old now next w.served row w.rows s w.certain w.kept w.performed w.numbers asked steps;
       certain = certain_more w.served s w.certain sure;
-      kept = kept_more g old now next w.served s steps sure w.kept;
-      performed = performed_more g old now next w.served s w.certain w.kept w.performed steps;
-      refused = refused_more g old now next w.served s w.refused steps;
+      kept = kept_more g old now next w.served row s steps sure w.kept;
+      performed = performed_more g old now next w.served row s w.certain w.kept w.performed steps;
+      refused = refused_more g old now next w.served row s w.refused steps;
       written = subst (Appends before out) (sym (answers_sure w.served s sure))
           (Appends-trans before after out _ _ w.written wrote);
     },
     p,
   )
 
-  pub all_applied : (AreOf : Option (List ℕ) → List Row → Type 0) (P : List Served → Type 0) → P w.served
-      → AreOf known w.rows → AppliedWith AreOf g known before after old now P
+  pub all_applied : (AreOf : Option (List ℕ) → List Row → Type 0) (P : List Row → List Served → Type 0)
+      → P w.rows w.served → AreOf known w.rows → AppliedWith AreOf g known before after old now P
   all_applied AreOf P p all = (
     record {
       rows = w.rows;
       served = w.served;
       all = all;
       each = w.each;
+      numbers = w.numbers;
       certain = w.certain;
       kept = w.kept;
       performed = w.performed;
@@ -178,7 +189,7 @@ module _ {S : Type 0} (g : Ghosts S) (known left : Option (List ℕ)) (at : Stat
   lost_unread kind (inr e) was = w.kept was ∙ sym (ap is_storage e)
 
   -- no row more was read
-  pub ended_unread : (P : List Served → Type 0) → P w.served → (kind : RefusalKind)
+  pub ended_unread : (P : List Row → List Served → Type 0) → P w.rows w.served → (kind : RefusalKind)
       → (kind ≡ OutOfMemory) ⊎ (kind ≡ ReadFailed) → EndedWith g kind known before after old now P
   ended_unread P p kind why = (
     record {
@@ -186,6 +197,7 @@ module _ {S : Type 0} (g : Ghosts S) (known left : Option (List ℕ)) (at : Stat
       served = w.served;
       first = took_first known left w.rows at w.took;
       each = w.each;
+      numbers = w.numbers;
       performed = w.performed;
       refused = w.refused;
       lost = lost_unread kind why;
@@ -195,7 +207,7 @@ module _ {S : Type 0} (g : Ghosts S) (known left : Option (List ℕ)) (at : Stat
   )
 
   -- nothing was done of the row that was read
-  pub ended_same : (P : List Served → Type 0) → P w.served → (kind : RefusalKind) (next : Archive S g)
+  pub ended_same : (P : List Row → List Served → Type 0) → P w.rows w.served → (kind : RefusalKind) (next : Archive S g)
       (out : Option (List ℕ)) → kind ≡ OutOfMemory → next ≡ now
       → out ≡ after → EndedWith g kind known before out old next P
   ended_same P p kind next out why same kept =
@@ -222,33 +234,36 @@ module _ {S : Type 0} (g : Ghosts S) (known left : Option (List ℕ)) (at : Stat
       (λ sure p. let all = part_written before after out w.served s sure w.written p.1 in
       inr (certain_more w.served s w.certain sure, inr (p.0, all)))
 
-  lost_doubted : (next : Archive S g) (s : Served) → Steps g s now next → is_in_doubt s ≡ true → is_shut old ≡ false
-      → is_shut next ≡ true
-  lost_doubted next (Ok done) steps doubted was = steps.1 (w.kept was) ∙ doubted
-  lost_doubted next (Err bad) same doubted was = absurd (false≢true doubted)
+  lost_doubted : (next : Archive S g) (row : Row) (s : Served) → StepsRow g row s now next → is_in_doubt s ≡ true
+      → is_shut old ≡ false → is_shut next ≡ true
+  lost_doubted next row (Ok done) steps doubted was = steps.1 (w.kept was) ∙ doubted
+  lost_doubted next row (Err bad) steps doubted was = absurd (false≢true doubted)
 
-  lost_row : (kind : RefusalKind) (next : Archive S g) (out : Option (List ℕ)) (s : Served) → Steps g s now next
+  lost_row : (kind : RefusalKind) (next : Archive S g) (out : Option (List ℕ)) (row : Row) (s : Served)
+      → StepsRow g row s now next
       → MatchBool (is_in_doubt s) ((kind ≡ Storage) × (out ≡ after)) (WritesPart kind after out (answer_text s))
       → is_shut old ≡ false → is_shut next ≡ is_storage kind
-  lost_row kind next out s steps h was = by_bool (is_in_doubt s) h
-      (λ doubted a. lost_doubted next s steps doubted was ∙ sym (ap is_storage a.0))
-      (λ sure p. kept_more g old now next w.served s steps sure w.kept was ∙ sym (not_storage kind p.0))
+  lost_row kind next out row s steps h was = by_bool (is_in_doubt s) h
+      (λ doubted a. lost_doubted next row s steps doubted was ∙ sym (ap is_storage a.0))
+      (λ sure p. kept_more g old now next w.served row s steps sure w.kept was ∙ sym (not_storage kind p.0))
 
   -- a row more, which was not answered whole
-  pub ended_row : (P : List Served → Type 0) (kind : RefusalKind) (row : Row) (next : Archive S g)
-      (rest out : Option (List ℕ)) (s : Served) (to : State) → P (w.served ++ s ∷ [])
-      → Took known (w.rows ++ row ∷ []) to rest → IsServed row s → Steps g s now next
+  pub ended_row : (P : List Row → List Served → Type 0) (kind : RefusalKind) (row : Row) (next : Archive S g)
+      (rest out : Option (List ℕ)) (s : Served) (to : State) → P (w.rows ++ row ∷ []) (w.served ++ s ∷ [])
+      → Took known (w.rows ++ row ∷ []) to rest → IsServed row s → IsServedIn g row s now next
+      → StepsRow g row s now next
       → MatchBool (is_in_doubt s) ((kind ≡ Storage) × (out ≡ after)) (WritesPart kind after out (answer_text s))
       → EndedWith g kind known before out old next P
-  ended_row P kind row next rest out s to p took is steps h = (
+  ended_row P kind row next rest out s to p took is asked steps h = (
     record {
       rows = w.rows ++ row ∷ [];
       served = w.served ++ s ∷ [];
       first = took_first known rest (w.rows ++ row ∷ []) to took;
       each = served_more w.rows w.served row s w.each is;
-      performed = performed_more g old now next w.served s w.certain w.kept w.performed steps;
-      refused = refused_more g old now next w.served s w.refused steps;
-      lost = lost_row kind next out s steps h;
+      numbers = numbers_more g old now next w.served row w.rows s w.certain w.kept w.performed w.numbers asked steps;
+      performed = performed_more g old now next w.served row s w.certain w.kept w.performed steps;
+      refused = refused_more g old now next w.served row s w.refused steps;
+      lost = lost_row kind next out row s steps h;
       written = ends_row kind s out h;
     },
     p,
@@ -264,7 +279,7 @@ blameless_ends served before after kind is (inr h) = elim h.1 [
 ]
 
 pub told_so : {S : Type 0} (g : Ghosts S) (kind told : RefusalKind) (known before after : Option (List ℕ))
-    (old new : Archive S g) (P : List Served → Type 0) {Risen : Type 0}
+    (old new : Archive S g) (P : List Row → List Served → Type 0) {Risen : Type 0}
     → ((told ≡ kind) × (kind ≡ ReadFailed → Risen)) ⊎ ((kind ≡ ReadFailed) × (told ≡ OutOfMemory))
     → EndedWith g kind known before after old new P → EndedWith g told known before after old new P
 told_so g kind told known before after old new P (inl h) e =
@@ -276,6 +291,7 @@ told_so g kind told known before after old new P (inr h) e =
         served = e.0.served;
         first = e.0.first;
         each = e.0.each;
+        numbers = e.0.numbers;
         performed = e.0.performed;
         refused = e.0.refused;
         lost = λ was. e.0.lost was ∙ ap is_storage h.0;

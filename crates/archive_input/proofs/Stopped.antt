@@ -26,7 +26,7 @@ use Rattle.list_laws.proofs.Lists.{all_then}
 use Rattle.sqlite_trees.specs.declared.store.Store.{Ghosts}
 use Rattle.record_text.specs.declared.refusal.Refusal.{Refusal}
 use Rattle.record_text.specs.declared.refusal.RefusalKind.{RefusalKind}
-use Rattle.request_csv.specs.Input.{AreFirstRows, AreRows}
+use Rattle.request_csv.specs.Input.{AreFirstRows, AreRows, Row}
 use Rattle.archive_input.specs.Answers.{Served}
 use Rattle.archive_input.specs.RowByRow.{AppliedInTurn, Moment, ServesAll, ServesUpTo, refusal_of}
 use Rattle.archive_input.specs.Stopping.{AppliedAs, AreAccepted, EndedAs, IsRefusedLast, row_place}
@@ -58,20 +58,20 @@ refused_last stops served s refused e count so is counted stop = (
 
 -- rows that were served each in its turn, this many
 abbrev pub TurnSoFar : {S W F : Type 0} (g : Ghosts S) → (W → Option (List ℕ)) → (F → Option (List ℕ)) → Bool → ℕ
-    → Moment g W F → Moment g W F → List Served → Type 0
-TurnSoFar g written told stops count a b served =
-    InTurn g written told count a b served × AcceptedSoFar stops served
+    → Moment g W F → Moment g W F → List Row → List Served → Type 0
+TurnSoFar g written told stops count a b rows served =
+    InTurn g written told count a b rows served × AcceptedSoFar stops served
 
 module _ {S W F : Type 0} (g : Ghosts S) (written : W → Option (List ℕ)) (told : F → Option (List ℕ))
     (known : Option (List ℕ)) (a b : Moment g W F) where
-  abbrev pub AllSoFar : Bool → List Served → Type 0
-  AllSoFar stops served = ServesAll g written told 1 served a b × AcceptedSoFar stops served
+  abbrev pub AllSoFar : Bool → List Row → List Served → Type 0
+  AllSoFar stops rows served = ServesAll g written told 1 rows served a b × AcceptedSoFar stops served
 
-  abbrev pub UpToSoFar : Bool → List Served → Type 0
-  UpToSoFar stops served = (up : ServesUpTo g written told served a b.faults) × AcceptedSoFar stops up.0
+  abbrev pub UpToSoFar : Bool → List Row → List Served → Type 0
+  UpToSoFar stops rows served = (up : ServesUpTo g written told rows served a b.faults) × AcceptedSoFar stops up.0
 
-  abbrev pub AllRefused : Refusal → List Served → Type 0
-  AllRefused e served = ServesAll g written told 1 served a b × IsRefusedLast served e
+  abbrev pub AllRefused : Refusal → List Row → List Served → Type 0
+  AllRefused e rows served = ServesAll g written told 1 rows served a b × IsRefusedLast served e
 
   pub applied_as : (stops : Bool)
       → AppliedWith AreRows g known (written a.output) (written b.output) a.archive b.archive (AllSoFar stops)
@@ -97,17 +97,21 @@ module _ {S W F : Type 0} (g : Ghosts S) (written : W → Option (List ℕ)) (to
   ended_so false kind part = (part.0, (part.1, λ is. let wrong : ⊥ = cc in absurd wrong))
 
   -- the call ended before the next row, or in it; of that one nothing was reported
-  pub up_so_far : (stops : Bool) (count : ℕ) (served : List Served) (m : Moment g W F)
-      → InTurn g written told count a m served → b.faults ≡ m.faults → AcceptedSoFar stops served
-      → UpToSoFar stops served
-  up_so_far stops count served m turn same so =
-      ((served, [], none_more served, omega arith, m, turn.all, ap told same), so)
+  pub up_so_far : (stops : Bool) (count : ℕ) (rows : List Row) (served : List Served) (m : Moment g W F)
+      → InTurn g written told count a m rows served → b.faults ≡ m.faults → AcceptedSoFar stops served
+      → UpToSoFar stops rows served
+  up_so_far stops count rows served m turn same so = (
+    (served, [], none_more served, omega arith, rows, [], none_more rows, m, turn.all, ap told same),
+    so,
+  )
 
-  pub up_so_far_last : (stops : Bool) (count : ℕ) (served : List Served) (s : Served) (m : Moment g W F)
-      → InTurn g written told count a m served → b.faults ≡ m.faults → AcceptedSoFar stops served
-      → UpToSoFar stops (served ++ s ∷ [])
-  up_so_far_last stops count served s m turn same so =
-      ((served, s ∷ [], refl, omega arith, m, turn.all, ap told same), so)
+  pub up_so_far_last : (stops : Bool) (count : ℕ) (rows : List Row) (served : List Served) (row : Row) (s : Served)
+      (m : Moment g W F) → InTurn g written told count a m rows served → b.faults ≡ m.faults
+      → AcceptedSoFar stops served → UpToSoFar stops (rows ++ row ∷ []) (served ++ s ∷ [])
+  up_so_far_last stops count rows served row s m turn same so = (
+    (served, s ∷ [], refl, omega arith, rows, row ∷ [], refl, m, turn.all, ap told same),
+    so,
+  )
 
   -- a call that does not stop
   pub applied_all : (r : Result (Option Refusal) RefusalKind) (stop : Option Refusal) → r ≡ Ok stop

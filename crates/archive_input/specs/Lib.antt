@@ -1,6 +1,7 @@
 pub mod Answers
 pub mod Applying
 pub mod Entering
+pub mod Referring
 pub mod Requests
 pub mod RowByRow
 pub mod Stopping

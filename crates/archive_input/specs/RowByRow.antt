@@ -25,8 +25,8 @@ use Rattle.request_csv.specs.Faults.{IsFault}
 use Rattle.store.specs.Histories.{Outcome}
 use Rattle.store.specs.declared.archive.Archive.{Archive}
 use Rattle.archive_input.specs.Answers.{Served, answer_text}
-use Rattle.request_csv.specs.Input.{AreFirstRows}
-use Rattle.archive_input.specs.Applying.{Applied, AppliedOf, Ended, Steps, is_in_doubt}
+use Rattle.request_csv.specs.Input.{AreFirstRows, Row}
+use Rattle.archive_input.specs.Applying.{Applied, AppliedOf, Ended, IsServedIn, StepsRow, is_in_doubt}
 
 -- why a request was refused, or a row, where it was
 abbrev pub refusal_in : Outcome → Option RefusalKind
@@ -57,37 +57,42 @@ pub record Moment {S : Type 0} (g : Ghosts S) (W F : Type 0) : Type 0 where
 
 -- `written` and `told` are what the two writers have got
 module _ {S W F : Type 0} (g : Ghosts S) (written : W → Option (List ℕ)) (told : F → Option (List ℕ)) where
-  -- the row of this number from one moment to the next: its request is performed, its answer is written, and what is
-  -- wrong with it is reported
-  pub record Serves (number : ℕ) (s : Served) (a b : Moment g W F) : Type 0 where
-    pub performed : Steps g s a.archive b.archive
+  -- the row of this number from one moment to the next: what it asks for in the archive of the first is performed, its
+  -- answer is written, and what is wrong with it is reported
+  pub record Serves (number : ℕ) (row : Row) (s : Served) (a b : Moment g W F) : Type 0 where
+    pub asked : IsServedIn g row s a.archive b.archive
+    pub performed : StepsRow g row s a.archive b.archive
     pub certain : is_in_doubt s ≡ false
     pub answered : Appends (written a.output) (written b.output) (answer_text s)
     pub faulted : IsTold number (refusal_of s) (told a.faults) (told b.faults)
 
   -- rows from this number on, each from the moment that the row before has left
-  abbrev pub ServesAll : ℕ → List Served → Moment g W F → Moment g W F → Type 0
-  ServesAll number [] a b = b ≡ a
-  ServesAll number (s ∷ served) a b = (m : Moment g W F) × Serves number s a m × ServesAll (number + 1) served m b
+  abbrev pub ServesAll : ℕ → List Row → List Served → Moment g W F → Moment g W F → Type 0
+  ServesAll number [] [] a b = b ≡ a
+  ServesAll number [] (s ∷ served) a b = ⊥
+  ServesAll number (row ∷ rows) [] a b = ⊥
+  ServesAll number (row ∷ rows) (s ∷ served) a b =
+      (m : Moment g W F) × Serves number row s a m × ServesAll (number + 1) rows served m b
 
   -- the same of all rows, but for the last, where the call ended early in it; of that one nothing is reported
-  abbrev pub ServesUpTo : List Served → Moment g W F → F → Type 0
-  ServesUpTo served a faults =
+  abbrev pub ServesUpTo : List Row → List Served → Moment g W F → F → Type 0
+  ServesUpTo rows served a faults =
       (first : List Served) × (last : List Served) × (served ≡ first ++ last) × (length last ≤ 1)
-      × (m : Moment g W F) × ServesAll 1 first a m × (told faults ≡ told m.faults)
+      × (begun : List Row) × (left : List Row) × (rows ≡ begun ++ left)
+      × (m : Moment g W F) × ServesAll 1 begun first a m × (told faults ≡ told m.faults)
 
   -- all rows of an input were served and answered, each in its turn
   abbrev pub AppliedInTurn : Option (List ℕ) → Moment g W F → Moment g W F → Type 0
   AppliedInTurn input a b = (all : Applied g input (written a.output) (written b.output) a.archive b.archive)
-      × ServesAll 1 all.served a b
+      × ServesAll 1 all.rows all.served a b
 
   -- the first rows were, each in its turn
   abbrev pub StoppedInTurn : Option (List ℕ) → Moment g W F → Moment g W F → Type 0
   StoppedInTurn input a b =
       (part : AppliedOf AreFirstRows g input (written a.output) (written b.output) a.archive b.archive)
-      × ServesAll 1 part.served a b
+      × ServesAll 1 part.rows part.served a b
 
   -- the first rows were, and then the call ended early
   abbrev pub EndedInTurn : RefusalKind → Option (List ℕ) → Moment g W F → Moment g W F → Type 0
   EndedInTurn kind input a b = (part : Ended g kind input (written a.output) (written b.output) a.archive b.archive)
-      × ServesUpTo part.served a b.faults
+      × ServesUpTo part.rows part.served a b.faults

@@ -39,8 +39,9 @@ use store::Archive;
 /// counted from 1 as they are read, and the field where one is to blame. Where `faults` fails, less is said there, and
 /// nothing else changes: what is done, what is answered and how the call ends.
 ///
-/// The rows have no header row and any number of fields; empty lines are no rows, and a byte order mark before the
-/// first is taken off. A row that is refused is answered so, and the rows after it are served.
+/// A row may name records by `@` and a token: its request is that with the numbers that the archive has for them when
+/// the row comes. The rows have no header row and any number of fields; empty lines are no rows, and a byte order mark
+/// before the first is taken off. A row that is refused is answered so, and the rows after it are served.
 ///
 /// It ends early with 80: the database failed, and the request in doubt is not answered. 94 and 95: the reader or the
 /// writer failed in this call, by its count. 1: no memory was found to read a row or to form its answer, or a device

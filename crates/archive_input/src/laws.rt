@@ -2,7 +2,10 @@
 //!
 //! What holds of the faults of files.
 
-ghost use Rattle.std.specs.Prelude.{◌≡◌, ℕ, List};
+ghost use Rattle.std.specs.Prelude.{◌≡◌, false, ℕ, List};
+ghost use Rattle.row_references.specs.References.{has_references};
+ghost use Rattle.archive_input.specs.Answers.{Served};
+ghost use Rattle.archive_input.specs.Applying.{IsServed, IsServedAsItIs};
 ghost use Rattle.archive_input.specs.Requests.{Asked, Asks};
 ghost use Rattle.gedcom_rules.specs.declared.fault.TreeKind.{TreeKind};
 ghost use Rattle.gedcom_rules.specs.Refusals as tree;
@@ -12,6 +15,11 @@ ghost use Rattle.archive_input.specs.Faults.{kind_of};
 /// A row asks for one request, or is refused for one reason.
 pub fn a_row_asks_for_one_thing()
     ensures { (row : List (List ℕ)) (first second : Asked) → Asks row first → Asks row second → first ≡ second }
+{}
+
+/// A row without references is served as it asks.
+pub fn a_row_without_references_is_served_as_it_is()
+    ensures { (row : List (List ℕ)) (s : Served) → has_references row ≡ false → IsServed row s → IsServedAsItIs row s }
 {}
 
 /// A fault of a file is refused with its number and its name.

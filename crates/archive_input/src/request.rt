@@ -3,7 +3,7 @@
 ghost use Rattle.std.specs.Prelude.{map};
 ghost use Rattle.csv.specs.Records.{fields_of};
 ghost use Rattle.commands.specs.Rows.{Decided};
-ghost use Rattle.archive_input.specs.Requests.{Asks, AsksText, AsksUnder, OrWants, ReadsFields};
+ghost use Rattle.archive_input.specs.Requests.{Asks, AsksText, AsksUnder, OrWants, ReadsFields, in_form};
 ghost use Rattle.receipts.specs.Tokens.{IsToken};
 
 use crate::bad_request::{BadRequest, untold};
@@ -13,6 +13,7 @@ use csv::ByteRecord;
 use receipts::Token;
 use record_text::RefusalKind;
 use request_csv::text_fields;
+use row_references::with_any_numbers;
 use std::alloc::Global;
 
 /// The request of a row: its token, its verb and the fields of the verb.
@@ -27,6 +28,15 @@ pub fn read_request(alloc: Global, row: &ByteRecord) -> Result<Request, BadReque
         Some(fields) => request_of(alloc, fields.as_slice()),
         None => Err(untold(RefusalKind::BadRow)),
     }
+}
+
+/// The request of a row with any numbers in place of its references. Refused as by `read_request`.
+#[tactic(auto, using(crate::proofs::Asked::form_read))]
+pub(crate) fn read_in_form(alloc: Global, row: &ByteRecord) -> Result<Request, BadRequest>
+    ensures { OrWants result (Asks (in_form (fields_of row.now))) }
+{
+    let plain = with_any_numbers(alloc, row)?;
+    read_request(alloc, &plain)
 }
 
 /// The request of fields.

@@ -1,25 +1,50 @@
 //! One row served: its request is performed, and its answer written.
 
-ghost use Rattle.std.specs.Prelude.{◌≡◌, ◌⊎◌, false, Ok, Err, IfErr, IfOk, MatchBool, OnErr, OnOk, Some};
+ghost use Rattle.std.specs.Prelude.{
+  ◌≡◌,
+  ◌⊎◌,
+  false,
+  true,
+  Ok,
+  Err,
+  IfErr,
+  IfOk,
+  MatchBool,
+  OnErr,
+  OnOk,
+  Some,
+  option_map,
+};
 ghost use Rattle.std.specs.Io.KnownBytes.{Appends};
 ghost use Rattle.commands.specs.Rows.{is_want};
 ghost use Rattle.csv.specs.Records.{fields_of};
 ghost use Rattle.devices.specs.Devices.{Rose};
 ghost use Rattle.record_text.specs.declared.refusal.RefusalKind.TheVariants as refusal;
-ghost use Rattle.store.specs.Histories.{Outcome, has_failed};
+ghost use Rattle.row_references.specs.References.{IsNumbered, has_references};
+ghost use Rattle.store.specs.Histories.{Outcome, has_broken, has_failed, is_storage};
+ghost use Rattle.store.specs.Shut.{is_shut};
 ghost use Rattle.archive_input.specs.Answers.{Served, answer_text};
 ghost use Rattle.archive_input.specs.Applying.{IsServed, Steps, WritesPart, is_in_doubt};
+ghost use Rattle.archive_input.specs.Referring.{
+  AnswersRow,
+  EndsInRow,
+  EndsServing,
+  IsAskedOr,
+  LooksUp,
+};
+ghost use Rattle.archive_input.specs.Requests.{Asks, in_form, refused_under};
 ghost use Rattle.archive_input.specs.RowByRow.{Serves, refusal_in, refusal_of};
 
 use crate::answers::{bad_text, outcome_text};
 use crate::bad_request::BadRequest;
-use crate::request::read_request;
+use crate::request::{read_in_form, read_request};
 use crate::telling::tell_fault;
 use archive_core::Request;
 use csv::ByteRecord;
 use devices::{Device, TransferError, write_flushed};
 use receipts::Answer;
 use record_text::{Refusal, RefusalKind};
+use row_references::{has_references, numbered};
 use sqlite::Alter;
 use std::alloc::Global;
 use std::io::Write;
@@ -43,16 +68,12 @@ pub fn serve_row<S: Alter, W: Write + Device, F: Write + Device>(
     before: u64,
 ) -> Result<Option<RefusalKind>, RefusalKind>
     ensures served { IfOk result (λ refused. (s : Served) × IsServed (fields_of row.now) s
-        × Serves S.Store W.contents F.contents number s
+        × Serves S.Store W.contents F.contents number (fields_of row.now) s
         (record { archive = archive.old; output = output.old; faults = faults.old })
         (record { archive = archive.new; output = output.new; faults = faults.new })
         × (refused ≡ refusal_of s)) }
-    ensures ended { IfErr result
-        (λ kind. ((kind ≡ refusal.OutOfMemory) × (archive.new ≡ archive.old)
-        × (W.contents output.new ≡ W.contents output.old))
-        ⊎ ((s : Served) × IsServed (fields_of row.now) s × Steps S.Store s archive.old archive.new
-        × MatchBool (is_in_doubt s) ((kind ≡ refusal.Storage) × (W.contents output.new ≡ W.contents output.old))
-        (WritesPart kind (W.contents output.old) (W.contents output.new) (answer_text s)))) }
+    ensures ended { IfErr result (EndsInRow S.Store (fields_of row.now) archive.old archive.new
+        (W.contents output.old) (W.contents output.new)) }
     ensures failed { result ≡ Err refusal.WriteFailed → Rose before (W.failed output.new) }
     ensures untold { OnErr result (faults.new ≡ faults.old) }
 {
@@ -74,22 +95,240 @@ fn answer_row<S: Alter, W: Write + Device>(
     output: &mut W,
     before: u64,
 ) -> Result<Option<RefusalKind>, RefusalKind>
-    ensures served { IfOk result (λ refused. (s : Served) × IsServed (fields_of row.now) s
-        × Steps S.Store s archive.old archive.new
-        × (is_in_doubt s ≡ false) × Appends (W.contents output.old) (W.contents output.new) (answer_text s)
-        × (refused ≡ refusal_of s)) }
-    ensures ended { IfErr result
-        (λ kind. ((kind ≡ refusal.OutOfMemory) × (archive.new ≡ archive.old)
-        × (W.contents output.new ≡ W.contents output.old))
-        ⊎ ((s : Served) × IsServed (fields_of row.now) s × Steps S.Store s archive.old archive.new
-        × MatchBool (is_in_doubt s) ((kind ≡ refusal.Storage) × (W.contents output.new ≡ W.contents output.old))
-        (WritesPart kind (W.contents output.old) (W.contents output.new) (answer_text s)))) }
+    ensures served { IfOk result (AnswersRow S.Store (fields_of row.now) archive.old archive.new
+        (W.contents output.old) (W.contents output.new)) }
+    ensures ended { IfErr result (EndsInRow S.Store (fields_of row.now) archive.old archive.new
+        (W.contents output.old) (W.contents output.new)) }
+    ensures failed { result ≡ Err refusal.WriteFailed → Rose before (W.failed output.new) }
+{
+    if has_references(row) {
+        answer_referring(alloc, archive, row, output, before)
+    } else {
+        answer_plain(alloc, archive, row, output, before)
+    }
+}
+
+/// The same of a row without references.
+fn answer_plain<S: Alter, W: Write + Device>(
+    alloc: Global,
+    archive: &mut Archive<S>,
+    row: &ByteRecord,
+    output: &mut W,
+    before: u64,
+) -> Result<Option<RefusalKind>, RefusalKind>
+    requires plain { has_references (fields_of row.now) ≡ false }
+    ensures served { IfOk result (AnswersRow S.Store (fields_of row.now) archive.old archive.new
+        (W.contents output.old) (W.contents output.new)) }
+    ensures ended { IfErr result (EndsInRow S.Store (fields_of row.now) archive.old archive.new
+        (W.contents output.old) (W.contents output.new)) }
     ensures failed { result ≡ Err refusal.WriteFailed → Rose before (W.failed output.new) }
 {
     match read_request(alloc, row) {
         Ok(request) => serve_request(alloc, archive, request, output, before),
         Err(bad) => answer_bad(alloc, bad, output, before),
     }
+}
+
+/// The same of a row with references: before one is looked for, its form is judged.
+fn answer_referring<S: Alter, W: Write + Device>(
+    alloc: Global,
+    archive: &mut Archive<S>,
+    row: &ByteRecord,
+    output: &mut W,
+    before: u64,
+) -> Result<Option<RefusalKind>, RefusalKind>
+    requires refers { has_references (fields_of row.now) ≡ true }
+    ensures served { IfOk result (AnswersRow S.Store (fields_of row.now) archive.old archive.new
+        (W.contents output.old) (W.contents output.new)) }
+    ensures ended { IfErr result (EndsInRow S.Store (fields_of row.now) archive.old archive.new
+        (W.contents output.old) (W.contents output.new)) }
+    ensures failed { result ≡ Err refusal.WriteFailed → Rose before (W.failed output.new) }
+{
+    match read_in_form(alloc, row) {
+        Ok(request) => serve_referring(alloc, archive, row, request, output, before),
+        Err(bad) => answer_bad(alloc, bad, output, before),
+    }
+}
+
+/// The same of a row whose form is right, and that is this request with any numbers. An archive that takes no requests
+/// is not looked at: it refuses that request.
+fn serve_referring<S: Alter, W: Write + Device>(
+    alloc: Global,
+    archive: &mut Archive<S>,
+    row: &ByteRecord,
+    request: Request,
+    output: &mut W,
+    before: u64,
+) -> Result<Option<RefusalKind>, RefusalKind>
+    requires refers { has_references (fields_of row.now) ≡ true }
+    requires asks { Asks (in_form (fields_of row.now)) (Ok request) }
+    ensures served { IfOk result (AnswersRow S.Store (fields_of row.now) archive.old archive.new
+        (W.contents output.old) (W.contents output.new)) }
+    ensures ended { IfErr result (EndsInRow S.Store (fields_of row.now) archive.old archive.new
+        (W.contents output.old) (W.contents output.new)) }
+    ensures failed { result ≡ Err refusal.WriteFailed → Rose before (W.failed output.new) }
+{
+    if archive.is_shut() {
+        return serve_request(alloc, archive, request, output, before);
+    }
+    serve_looked(alloc, archive, row, request, output, before)
+}
+
+/// The same on an archive that takes requests: its references are looked for.
+fn serve_looked<S: Alter, W: Write + Device>(
+    alloc: Global,
+    archive: &mut Archive<S>,
+    row: &ByteRecord,
+    request: Request,
+    output: &mut W,
+    before: u64,
+) -> Result<Option<RefusalKind>, RefusalKind>
+    requires refers { has_references (fields_of row.now) ≡ true }
+    requires asks { Asks (in_form (fields_of row.now)) (Ok request) }
+    requires takes { is_shut archive.old ≡ false }
+    ensures served { IfOk result (AnswersRow S.Store (fields_of row.now) archive.old archive.new
+        (W.contents output.old) (W.contents output.new)) }
+    ensures ended { IfErr result (EndsServing S.Store (fields_of row.now) archive.old archive.new
+        (W.contents output.old) (W.contents output.new)) }
+    ensures failed { result ≡ Err refusal.WriteFailed → Rose before (W.failed output.new) }
+{
+    match look_up(alloc, archive, row) {
+        Ok(Some(own)) => {
+            drop(request);
+            let served = serve_numbered(alloc, archive, &own, output, before);
+            drop(own);
+            served
+        }
+        Ok(None) => answer_under(alloc, request, RefusalKind::NoSuch, output, before),
+        Err(kind) => answer_unread(alloc, request, kind, output, before),
+    }
+}
+
+/// The row with its numbers in place of its references, by looks at the archive. `None`: one of them has no number. 80:
+/// the looks lost the archive. 1, 40: they failed otherwise.
+fn look_up<S: Alter>(
+    alloc: Global,
+    archive: &mut Archive<S>,
+    row: &ByteRecord,
+) -> Result<Option<ByteRecord>, RefusalKind>
+    ensures looked { LooksUp S.Store (fields_of row.now) archive.old result archive.new }
+    ensures form { IfOk result (λ found. IsNumbered (fields_of row.now) (option_map fields_of found)) }
+    ensures aside { archive.new.import ≡ archive.old.import }
+    ensures lost { has_broken result ≡ archive.new.is_lost }
+    ensures stops { IfErr result (λ kind. is_storage kind ≡ false
+        → (kind ≡ refusal.OutOfMemory) ⊎ (kind ≡ refusal.BadStored)) }
+{
+    let import = archive.set_aside();
+    let found = numbered(alloc, archive, row);
+    archive.put_back(import);
+    unless_lost(archive.is_lost(), found)
+}
+
+/// What was found. 80: the looks lost the archive. 1, 40: they failed otherwise.
+fn unless_lost(
+    is_lost: bool,
+    found: Result<Option<ByteRecord>, RefusalKind>,
+) -> Result<Option<ByteRecord>, RefusalKind>
+    ensures lost { has_broken result ≡ is_lost }
+    ensures found { IfOk result (λ own. found ≡ Ok own) }
+    ensures stops { IfErr result (λ kind. is_storage kind ≡ false
+        → (kind ≡ refusal.OutOfMemory) ⊎ (kind ≡ refusal.BadStored)) }
+{
+    if is_lost {
+        return Err(RefusalKind::Storage);
+    }
+    match found {
+        Ok(own) => Ok(own),
+        Err(kind) => Err(unread(kind)),
+    }
+}
+
+/// Why the references of a row were not found out: 1 or 40.
+fn unread(kind: RefusalKind) -> RefusalKind
+    ensures { (result ≡ refusal.OutOfMemory) ⊎ (result ≡ refusal.BadStored) }
+{
+    match kind {
+        RefusalKind::OutOfMemory => kind,
+        _ => RefusalKind::BadStored,
+    }
+}
+
+/// Serves the row that has numbers in place of its references.
+fn serve_numbered<S: Alter, W: Write + Device>(
+    alloc: Global,
+    archive: &mut Archive<S>,
+    row: &ByteRecord,
+    output: &mut W,
+    before: u64,
+) -> Result<Option<RefusalKind>, RefusalKind>
+    ensures served { IfOk result (λ refused. (s : Served) × IsAskedOr (fields_of row.now) s
+        × Steps S.Store s archive.old archive.new × (is_in_doubt s ≡ false)
+        × Appends (W.contents output.old) (W.contents output.new) (answer_text s) × (refused ≡ refusal_of s)) }
+    ensures ended { IfErr result (λ kind. (s : Served) × IsAskedOr (fields_of row.now) s
+        × Steps S.Store s archive.old archive.new
+        × MatchBool (is_in_doubt s) ((kind ≡ refusal.Storage) × (W.contents output.new ≡ W.contents output.old))
+        (WritesPart kind (W.contents output.old) (W.contents output.new) (answer_text s))) }
+    ensures failed { result ≡ Err refusal.WriteFailed → Rose before (W.failed output.new) }
+{
+    match read_request(alloc, row) {
+        Ok(request) => serve_request(alloc, archive, request, output, before),
+        Err(bad) => answer_refused(alloc, bad, output, before),
+    }
+}
+
+/// Writes the answer to a row of that token, which is refused so, and hands its refusal on.
+fn answer_under<W: Write + Device>(
+    alloc: Global,
+    request: Request,
+    kind: RefusalKind,
+    output: &mut W,
+    before: u64,
+) -> Result<Option<RefusalKind>, RefusalKind>
+    ensures served { IfOk result (λ refused. Appends (W.contents output.old)
+        (W.contents output.new) (answer_text (Err (refused_under request.token kind))) × (refused ≡ Some kind)) }
+    ensures ended { IfErr result
+        (λ e. WritesPart e (W.contents output.old) (W.contents output.new)
+        (answer_text (Err (refused_under request.token kind)))) }
+    ensures failed { result ≡ Err refusal.WriteFailed → Rose before (W.failed output.new) }
+{
+    let Request { token, command } = request;
+    drop(command);
+    let bad = BadRequest {
+        token: Some(token),
+        kind,
+    };
+    answer_refused(alloc, bad, output, before)
+}
+
+/// Writes the answer to a row of that token whose references were not found out, and hands its refusal on. 80: the
+/// looks lost the archive, and nothing is written.
+fn answer_unread<W: Write + Device>(
+    alloc: Global,
+    request: Request,
+    kind: RefusalKind,
+    output: &mut W,
+    before: u64,
+) -> Result<Option<RefusalKind>, RefusalKind>
+    ensures served { IfOk result (λ refused. (is_storage kind ≡ false) × Appends (W.contents output.old)
+        (W.contents output.new) (answer_text (Err (refused_under request.token kind))) × (refused ≡ Some kind)) }
+    ensures ended { IfErr result
+        (λ e. MatchBool (is_storage kind) ((e ≡ refusal.Storage) × (W.contents output.new ≡ W.contents output.old))
+        (WritesPart e (W.contents output.old) (W.contents output.new)
+        (answer_text (Err (refused_under request.token kind))))) }
+    ensures failed { result ≡ Err refusal.WriteFailed → Rose before (W.failed output.new) }
+{
+    if is_storage(kind) {
+        drop(request);
+        return Err(RefusalKind::Storage);
+    }
+    answer_under(alloc, request, kind, output, before)
+}
+
+/// Whether the database failed.
+fn is_storage(kind: RefusalKind) -> bool
+    ensures { result ≡ is_storage kind }
+{
+    matches!(kind, RefusalKind::Storage)
 }
 
 /// Performs a request, and writes its answer: why it is refused, where it is.
@@ -182,6 +421,22 @@ fn answer_bad<W: Write + Device>(
     if is_want(bad.kind) {
         return Err(RefusalKind::OutOfMemory);
     }
+    answer_refused(alloc, bad, output, before)
+}
+
+/// Writes the answer to a row that is refused so, and hands its refusal on.
+fn answer_refused<W: Write + Device>(
+    alloc: Global,
+    bad: BadRequest,
+    output: &mut W,
+    before: u64,
+) -> Result<Option<RefusalKind>, RefusalKind>
+    ensures served { IfOk result (λ refused. Appends (W.contents output.old)
+        (W.contents output.new) (answer_text (Err bad)) × (refused ≡ Some bad.kind)) }
+    ensures ended { IfErr result
+        (λ kind. WritesPart kind (W.contents output.old) (W.contents output.new) (answer_text (Err bad))) }
+    ensures failed { result ≡ Err refusal.WriteFailed → Rose before (W.failed output.new) }
+{
     match bad_text(alloc, &bad) {
         Ok(text) => match write_answer(output, before, text.as_slice()) {
             Ok(()) => Ok(Some(bad.kind)),

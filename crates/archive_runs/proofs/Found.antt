@@ -21,7 +21,7 @@ use Rattle.archive_lists.specs.Texts.{list_text, shown_text}
 use Rattle.archive_state.specs.Content.{Content}
 use Rattle.page_entries.specs.declared.dates.DateOrder.{DateOrder}
 use Rattle.request_csv.specs.Batches.{ReadsBatch}
-use Rattle.request_csv.specs.Input.{AreFirstRows, AreRows, row_bytes}
+use Rattle.request_csv.specs.Input.{AreFirstRows, AreRows, Row, row_bytes}
 use Rattle.commands.specs.declared.entry_row.EntryRow.{EntryRow}
 use Rattle.devices.specs.Devices.{AppendsBeginning}
 use Rattle.devices.specs.declared.device.Device as device
@@ -49,6 +49,8 @@ use Rattle.archive_input.specs.Answers.{Served}
 use Rattle.archive_input.specs.Applying.{
   Applied,
   AppliedOf,
+  AreServedIn,
+  AreServedOver,
   Ended as EndedEarly,
   Ends as EndsEarly,
   PerformsAll,
@@ -206,6 +208,12 @@ module _ {R W F : Type 0} (reader : read.Ghosts R) (reads : device.Ghosts R) (wr
         (all.0, subst (λ (k : Content). IsArchive society k left) found.1 found.2)
 
     -- ---- rows of requests
+    -- the numbers of the archive that was taken up are those of the archive that the file held
+    numbered : (rows : List Row) (served : List Served) → PerformsAll over_files taken (calls_of served) new
+        → AreServedIn over_files rows served taken new → AreServedOver c rows served
+    numbered rows served all are = are clean held.ready society c
+        (held.has (all clean held.ready).clean society c tables holds had).0
+
     -- for a task of which such rows are kept
     module _ (law : ArePerformed g) (t : Task) (rows : Option (List ℕ)) (same : rows ≡ row_bytes (Some input)) where
       told_early : (kind : RefusalKind) (served : List Served) → EndsEarly kind served Got Has → ¬ (HasDone ended)
@@ -215,7 +223,7 @@ module _ {R W F : Type 0} (reader : read.Ghosts R) (reads : device.Ghosts R) (wr
       told_early kind served (inr (none, inr part)) never = tells_part t (answers served) part.1 never
 
       rows_served : (all : Applied over_files rows Got Has taken new)
-          → ((kept : List Done) → (k : KeepsRows (run t) kept) → k.served ≡ all.served → Acts c (Some t) (run t) kept)
+          → ((kept : List Done) → (k : KeepsRows c (run t) kept) → k.served ≡ all.served → Acts c (Some t) (run t) kept)
           → FoundIn t society c left
       rows_served all acts =
           let k = performed law (calls_of all.served) all.performed in (
@@ -227,6 +235,7 @@ module _ {R W F : Type 0} (reader : read.Ghosts R) (reads : device.Ghosts R) (wr
                   served = all.served;
                   read = inl (subst (λ bytes. AreRows bytes all.rows) same all.all, all.certain);
                   each = all.each;
+                  numbers = numbered all.rows all.served all.performed all.numbers;
                   counts = k.2;
                   told = tells t (answers all.served) all.written;
                 })
@@ -237,7 +246,7 @@ module _ {R W F : Type 0} (reader : read.Ghosts R) (reads : device.Ghosts R) (wr
 
       -- the first of the rows, all of which were answered
       rows_stopped : (part : AppliedOf AreFirstRows over_files rows Got Has taken new) → ¬ (HasDone ended)
-          → ((kept : List Done) → (k : KeepsRows (run t) kept) → k.served ≡ part.served
+          → ((kept : List Done) → (k : KeepsRows c (run t) kept) → k.served ≡ part.served
           → Acts c (Some t) (run t) kept)
           → FoundIn t society c left
       rows_stopped part never acts =
@@ -250,6 +259,7 @@ module _ {R W F : Type 0} (reader : read.Ghosts R) (reads : device.Ghosts R) (wr
                   served = part.served;
                   read = inr (subst (λ bytes. AreFirstRows bytes part.rows) same part.all, never);
                   each = part.each;
+                  numbers = numbered part.rows part.served part.performed part.numbers;
                   counts = k.2;
                   told = tells t (answers part.served) part.written;
                 })
@@ -260,7 +270,7 @@ module _ {R W F : Type 0} (reader : read.Ghosts R) (reads : device.Ghosts R) (wr
 
       rows_ended : (kind : RefusalKind) (part : EndedEarly over_files kind rows Got Has taken new)
           → ¬ (HasDone ended)
-          → ((kept : List Done) → (k : KeepsRows (run t) kept) → k.served ≡ part.served
+          → ((kept : List Done) → (k : KeepsRows c (run t) kept) → k.served ≡ part.served
           → Acts c (Some t) (run t) kept)
           → FoundIn t society c left
       rows_ended kind part never acts =
@@ -273,6 +283,7 @@ module _ {R W F : Type 0} (reader : read.Ghosts R) (reads : device.Ghosts R) (wr
                   served = part.served;
                   read = inr (subst (λ bytes. AreFirstRows bytes part.rows) same part.first, never);
                   each = part.each;
+                  numbers = numbered part.rows part.served part.performed part.numbers;
                   counts = k.2;
                   told = told_early kind part.served part.written never;
                 })
@@ -400,7 +411,7 @@ module _ {R W F : Type 0} (reader : read.Ghosts R) (reads : device.Ghosts R) (wr
           (undone finishes.0) (λ kept k is. inr k)
 
       -- rows that were served up to a refusal
-      until_refused : (kept : List Done) (k : KeepsRows (run task.ApplyUntilRefused) kept) (served : List Served)
+      until_refused : (kept : List Done) (k : KeepsRows c (run task.ApplyUntilRefused) kept) (served : List Served)
           → k.served ≡ served → IsUpToRefusal served → (HasDone ended → AreAccepted served)
           → Acts c (Some task.ApplyUntilRefused) (run task.ApplyUntilRefused) kept
       until_refused kept k served same stops none = inr (record {

@@ -18,7 +18,7 @@ use Rattle.store.specs.Earlier.{HoldsArchive}
 use Rattle.store.specs.Histories.{in_doubt}
 use Rattle.store.specs.Lives.{Counts}
 use Rattle.archive_input.specs.Answers.{Served}
-use Rattle.archive_input.specs.Applying.{AreServed, answers, calls_of}
+use Rattle.archive_input.specs.Applying.{AreServed, AreServedOver, answers, calls_of}
 use Rattle.archive_input.specs.Entering.{batch_request}
 use Rattle.archive_input.specs.Stopping.{AreAccepted, IsUpToRefusal}
 use Rattle.tasks.specs.Texts.{made_text}
@@ -48,19 +48,21 @@ abbrev pub HasRead : Run → List Row → List Served → Type 0
 HasRead run rows served = (AreRows (row_bytes (Some run.input)) rows × (in_doubt (calls_of served) ≡ None))
     ⊎ (AreFirstRows (row_bytes (Some run.input)) rows × ¬ (IsDone run))
 
--- rows were served. Their requests are kept; that of the last may be in doubt, and then it is kept or not, and has no
--- answer. The answers are written: each that stands on the output is of a request that is kept
-pub record KeepsRows (run : Run) (kept : List Done) : Type 0 where
+-- rows were served on an archive that held this, each with the numbers that its tokens had then. Their requests are
+-- kept; that of the last may be in doubt, and then it is kept or not, and has no answer. The answers are written: each
+-- that stands on the output is of a request that is kept
+pub record KeepsRows (c : Content) (run : Run) (kept : List Done) : Type 0 where
   pub rows : List Row
   pub served : List Served
   pub read : HasRead run rows served
   pub each : AreServed rows served
+  pub numbers : AreServedOver c rows served
   pub counts : Counts (calls_of served) kept
   pub told : Tells run (answers served)
 
 -- rows were served up to the first that was refused, after which none is done; where it is done none was refused
-pub record KeepsUntilRefused (run : Run) (kept : List Done) : Type 0 where
-  pub rows : KeepsRows run kept
+pub record KeepsUntilRefused (c : Content) (run : Run) (kept : List Done) : Type 0 where
+  pub rows : KeepsRows c run kept
   pub stops : IsUpToRefusal rows.served
   pub none : IsDone run → AreAccepted rows.served
 
@@ -85,8 +87,8 @@ KeepsFile token run kept = (forest : List Item) × IsFileOf (Some run.input) for
 -- by its task, of an archive that held this. A batch and a file are kept whole or not at all; an export that is done
 -- reads back as the same records; of no other task anything is kept
 abbrev pub Acts : Content → Option Task → Run → List Done → Type 0
-Acts c (Some task.Apply) run kept = KeepsNone run kept ⊎ KeepsRows run kept
-Acts c (Some task.ApplyUntilRefused) run kept = KeepsNone run kept ⊎ KeepsUntilRefused run kept
+Acts c (Some task.Apply) run kept = KeepsNone run kept ⊎ KeepsRows c run kept
+Acts c (Some task.ApplyUntilRefused) run kept = KeepsNone run kept ⊎ KeepsUntilRefused c run kept
 Acts c (Some (task.Entries token source)) run kept = KeepsNone run kept ⊎ KeepsBatch token source run kept
 Acts c (Some (task.Import token progress)) run kept = KeepsNone run kept ⊎ KeepsFile token run kept
 Acts c (Some task.Export) run kept = (kept ≡ []) × (IsDone run → ReadsBack c run.written)

@@ -25,6 +25,9 @@ Of each refused row standard error tells which one it is, counted from 1, and
 what is wrong: row <n>: <no.> <Name>: field <place> (<name>): <what>. The place
 of the token is 1, that of the verb 2.
 
+A row names records and slips by their numbers, or by @ and the token of the row
+that made one: event,@t1,DEAT,,1950, is of the person of t1.
+
 Verbs and their fields; one with ? may be empty:
   person,name,sex?                 name,person,name
   sex,person,sex                   family,husband?,wife?
@@ -41,7 +44,7 @@ Verbs and their fields; one with ? may be empty:
   undo,slip                        remove,number
 
 Refusals of a row:
-  50 NoSuch              a number names nothing
+  50 NoSuch              a number or an @ token names nothing
   51 WrongKind           or a record of another kind
   52 TokenReused         the token is kept with another request
   53 StillNamed          another record names the one to remove

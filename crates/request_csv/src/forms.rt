@@ -90,6 +90,7 @@ fn type_fault(row: &ByteRecord, verb: Option<Verb>, at: usize) -> Option<&'stati
 /// What is wanted of a field that it is not. `None`: it is all that is wanted.
 fn wanted(what: Use, text: &str) -> Option<&'static str> {
     match what {
+        Use::Record | Use::RecordOrNone if is_sign(text) => token_fault(text),
         Use::Record | Use::Number if !is_number(text) => Some("no number from 1 to 4294967295"),
         Use::RecordOrNone if !text.is_empty() && !is_number(text) => Some(
             "neither empty nor a number from 1 to 4294967295",
@@ -106,6 +107,21 @@ fn wanted(what: Use, text: &str) -> Option<&'static str> {
         ),
         Use::Item if !is_item(text) => Some("no number from 1 to 999999"),
         _ => None,
+    }
+}
+
+/// Whether a field begins as a reference does.
+fn is_sign(text: &str) -> bool {
+    text.as_bytes().first() == Some(&b'@')
+}
+
+/// Why a field that begins with `@` is no reference. `None`: it is one.
+fn token_fault(text: &str) -> Option<&'static str> {
+    let printed = text.as_bytes().iter().all(|b| b'!' <= *b && *b <= b'~');
+    if printed && 1 < text.len() && text.len() <= 65 {
+        None
+    } else {
+        Some("no token is after the @")
     }
 }
 
@@ -262,6 +278,20 @@ pub(crate) fn bad_number(row: &ByteRecord, what: &'static str) -> Finding {
         },
         None => Finding::Row { what },
     }
+}
+
+/// 50: the same, or a token of which nothing is kept.
+pub(crate) fn no_such(row: &ByteRecord) -> Finding {
+    let verb = verb_of(row);
+    for at in FIELDS..row.len() {
+        if is_record_number(row, verb, at) && text_at(row, at).is_some_and(is_sign) {
+            return bad_number(
+                row,
+                "nothing has this number, or no row that made something was done under this token",
+            );
+        }
+    }
+    bad_number(row, "nothing has this number")
 }
 
 fn is_record_number(row: &ByteRecord, verb: Option<Verb>, at: usize) -> bool {

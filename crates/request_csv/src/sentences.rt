@@ -2,7 +2,8 @@
 
 use crate::finding::Finding;
 use crate::forms::{
-    bad_number, bad_row, bad_text, bad_token, field, field_count, fields, not_of_kind, unknown_verb,
+    bad_number, bad_row, bad_text, bad_token, field, field_count, fields, no_such, not_of_kind,
+    unknown_verb,
 };
 use csv::ByteRecord;
 use record_text::RefusalKind;
@@ -15,7 +16,7 @@ pub(crate) fn finding_of(kind: RefusalKind, row: &ByteRecord) -> Finding {
         RefusalKind::UnknownVerb => unknown_verb(),
         RefusalKind::FieldCount => field_count(row),
         RefusalKind::BadText => bad_text(row),
-        RefusalKind::NoSuch => bad_number(row, "nothing has this number"),
+        RefusalKind::NoSuch => no_such(row),
         RefusalKind::WrongKind => bad_number(row, "what has this number is of another kind"),
         RefusalKind::NotOfKind => not_of_kind(row),
         _ => of_request(kind, row),

@@ -105,6 +105,9 @@ next_set row i at field less =
     chosen h = grind (arith, get_or-set_at, get_or-set_other)
 
 -- ---- a row without references
+abbrev pub unknown : List ℕ → Option ℕ
+unknown token = None
+
 module _ (known : List ℕ → Option ℕ) (row : List (List ℕ)) where
   stays_by : (at : ℕ) (token : Option (List ℕ)) → is_some token ≡ false → by_token known row at token ≡ Some row
   stays_by at None e = refl
@@ -153,6 +156,19 @@ pub fills_all : (ns : List ℕ) (i : ℕ) (a b : Option (List (List ℕ))) → l
     → Fills ns a b
 fills_all ns i a b all fills = subst (λ (places : List ℕ). Fills places a b) (take_all i ns all) fills
 
+-- a row without references has no other numbers
+fills_plain : (ns : List ℕ) (row : List (List ℕ)) (own : Option (List (List ℕ)))
+    → list_any (λ at. is_some (token_in (get_or row at []))) ns ≡ false → Fills ns (Some row) own → own ≡ Some row
+fills_plain [] row own none same = same
+fills_plain (n ∷ ns) row own none fills =
+    let parts = both_false unknown row (is_some (token_in (get_or row n []))) _ none in
+    let stays = fills.1.1 ∙ stays_by (λ token. fills.1.0) row n (token_in (get_or row n [])) parts.0 in
+    fills_plain ns row own parts.1 (subst (λ (m : Option (List (List ℕ))). Fills ns m own) stays fills.2)
+
+pub only_itself : (row : List (List ℕ)) (own : Option (List (List ℕ))) → has_references row ≡ false
+    → IsNumbered row own → own ≡ Some row
+only_itself row own none fills = fills_plain (naming_of row) row own none fills
+
 -- the numbers of a function are some numbers
 fills_one : (known : List ℕ → Option ℕ) (n : ℕ) (a : Option (List (List ℕ))) → FillsOne n a (numbered_at known a n)
 fills_one known n None = refl
@@ -186,9 +202,6 @@ pub any_numbered : (row : List (List ℕ)) → (own : List (List ℕ)) × (numbe
 any_numbered row = any_from (naming_of row) row
 
 -- ---- a row with references whose tokens have no number
-abbrev pub unknown : List ℕ → Option ℕ
-unknown token = None
-
 stays_none : (known : List ℕ → Option ℕ) (ns : List ℕ) → fold (numbered_at known) None ns ≡ None
 stays_none known [] = refl
 stays_none known (n ∷ ns) = stays_none known ns

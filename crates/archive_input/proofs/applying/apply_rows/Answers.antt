@@ -83,7 +83,7 @@ returns-in-Err-serve_row-clause-ended g c =
             archive = c.serve_row.new.archive;
             output = c.serve_row.new.output;
             faults = c.serve_row.new.faults;
-          }) c.args.stops _ _ _ v.way.1.0 untold v.way.1.1)
+          }) c.args.stops _ _ _ _ v.way.1.0 untold v.way.1.1)
           c.in-Err-serve_row.kind _ _ h.0 h.1 h.2
       | inr s ↦ ended_row g.S.Store _ _ _ _ _ _ _ way P c.in-Err-serve_row.kind f _ _ _ s.0 _
           (up_so_far_last g.S.Store g.W.Write.contents g.F.Write.contents (source_of g.R.Read.remaining c.args.rows.now)
@@ -91,8 +91,8 @@ returns-in-Err-serve_row-clause-ended g c =
             archive = c.serve_row.new.archive;
             output = c.serve_row.new.output;
             faults = c.serve_row.new.faults;
-          }) c.args.stops _ _ s.0 _ v.way.1.0 untold v.way.1.1)
-          t s.1 s.2 s.3
+          }) c.args.stops _ _ _ f s.0 _ v.way.1.0 untold v.way.1.1)
+          t s.1 s.2 s.3 s.4
     ])
 
 pub returns-in-Ok-false-clause-applied : goal.returns-in-Ok-false-clause-applied
@@ -117,7 +117,7 @@ returns-in-Some-clause-applied g c =
     let r = rw c.in-Ok-true.field-0-test at (c.in-Ok-true.ensures.reads v.plain v.ready) in
     let t = took_more g.R.Read.remaining c.rows.rows c.read_byte_record.new.self f way.rows v.config _ r way.took in
     let s = c.in-Ok.ensures.served in
-    let turn = turn_more g.S.Store g.W.Write.contents g.F.Write.contents _ _ s.0 _ _ _ v.way.1.0 s.2 in
+    let turn = turn_more g.S.Store g.W.Write.contents g.F.Write.contents _ _ _ f s.0 _ _ _ v.way.1.0 s.2 in
     let P = AllRefused g.S.Store g.W.Write.contents g.F.Write.contents
     (source_of g.R.Read.remaining c.args.rows.now)
     (record { archive = c.args.archive.now; output = c.args.output.now; faults = c.args.faults.now })
@@ -126,7 +126,8 @@ returns-in-Some-clause-applied g c =
       output = c.serve_row.new.output;
       faults = c.serve_row.new.faults;
     }) c.in-Some.stop in
-    let more = one_more g.S.Store _ _ _ _ _ _ _ way f _ _ _ s.0 _ t s.1 s.2.performed s.2.certain s.2.answered P (
+    let more = one_more g.S.Store _ _ _ _ _ _ _ way f _ _ _ s.0 _ t s.1 s.2.asked s.2.performed s.2.certain
+    s.2.answered P (
       turn.all,
       refused_last c.args.stops way.served s.0 c.in-Ok.refused c.in-Some.stop (c.rows.number + 1) v.way.1.1 s.3
           turn.counted c.in-Some.ensures.stops,
@@ -147,7 +148,7 @@ returns-in-Err-clause-ended g c =
     (up_so_far g.S.Store g.W.Write.contents g.F.Write.contents (source_of g.R.Read.remaining c.args.rows.now)
     (record { archive = c.args.archive.now; output = c.args.output.now; faults = c.args.faults.now })
     (record { archive = c.rows.archive; output = c.rows.output; faults = c.rows.faults })
-    c.args.stops _ _ _ v.way.1.0 refl v.way.1.1)
+    c.args.stops _ _ _ _ v.way.1.0 refl v.way.1.1)
     c.reading_failed.result c.reading_failed.ensures)
 
 pub rows-preserved : goal.rows-preserved
@@ -170,11 +171,12 @@ rows-preserved g c =
       plain = r.3 ∙ v.plain;
       config = r.2 ∙ v.config;
       flexible = c.in-Ok-true.ensures.flexible ∙ v.flexible;
-      way = one_more g.S.Store _ _ _ _ _ _ _ way f _ _ _ s.0 _ t s.1 s.2.performed s.2.certain s.2.answered P (
-        turn_more g.S.Store g.W.Write.contents g.F.Write.contents _ _ s.0 _ _ _ v.way.1.0 s.2,
-        accepted_more c.args.stops way.served s.0 c.in-Ok.refused v.way.1.1 s.3
-            (c.in-None.ensures.goes_on refl),
-      );
+      way = one_more g.S.Store _ _ _ _ _ _ _ way f _ _ _ s.0 _ t s.1 s.2.asked s.2.performed s.2.certain
+          s.2.answered P (
+            turn_more g.S.Store g.W.Write.contents g.F.Write.contents _ _ _ f s.0 _ _ _ v.way.1.0 s.2,
+            accepted_more c.args.stops way.served s.0 c.in-Ok.refused v.way.1.1 s.3
+                (c.in-None.ensures.goes_on refl),
+          );
     }
 
 pub returns-clause-ended : goal.returns-clause-ended
@@ -189,5 +191,5 @@ returns-clause-ended g c =
     (up_so_far g.S.Store g.W.Write.contents g.F.Write.contents (source_of g.R.Read.remaining c.args.rows.now)
     (record { archive = c.args.archive.now; output = c.args.output.now; faults = c.args.faults.now })
     (record { archive = c.rows.archive; output = c.rows.output; faults = c.rows.faults })
-    c.args.stops _ _ _ v.way.1.0 refl v.way.1.1)
+    c.args.stops _ _ _ _ v.way.1.0 refl v.way.1.1)
     refusal.OutOfMemory (inl refl))

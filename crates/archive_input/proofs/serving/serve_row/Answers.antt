@@ -8,12 +8,13 @@ returns-in-Ok-None-clause-served g c =
       h.0,
       h.1,
       record {
-        performed = h.2;
-        certain = h.3;
-        answered = h.4;
-        faulted = not_refused _ _ _ (sym c.in-Ok-None.field-0-is ∙ h.5);
+        asked = h.2;
+        performed = h.3;
+        certain = h.4;
+        answered = h.5;
+        faulted = not_refused _ _ _ (sym c.in-Ok-None.field-0-is ∙ h.6);
       },
-      sym c.in-Ok-None.field-0-is ∙ h.5,
+      sym c.in-Ok-None.field-0-is ∙ h.6,
     )
 
 pub returns-in-Ok-Some-clause-served : goal.returns-in-Ok-Some-clause-served
@@ -22,10 +23,11 @@ returns-in-Ok-Some-clause-served g c =
       h.0,
       h.1,
       record {
-        performed = h.2;
-        certain = h.3;
-        answered = h.4;
-        faulted = told_as _ _ _ _ _ (sym c.in-Ok-Some.field-0-is ∙ h.5) c.tell_fault.ensures;
+        asked = h.2;
+        performed = h.3;
+        certain = h.4;
+        answered = h.5;
+        faulted = told_as _ _ _ _ _ (sym c.in-Ok-Some.field-0-is ∙ h.6) c.tell_fault.ensures;
       },
-      sym c.in-Ok-Some.field-0-is ∙ h.5,
+      sym c.in-Ok-Some.field-0-is ∙ h.6,
     )

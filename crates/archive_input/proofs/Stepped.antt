@@ -1,0 +1,189 @@
+-- What a row does to an archive that is looked at before it.
+use Rattle.std.proofs.Common.{
+  ◌≡◌,
+  ◌∙◌,
+  ◌||◌,
+  Bool,
+  true,
+  false,
+  ℕ,
+  [],
+  ◌∷◌,
+  Ok,
+  Err,
+  ap,
+  inl,
+  inr,
+  refl,
+  subst,
+  sym,
+}
+use Rattle.std.specs.Prelude.{IfOk, Option, None, Result, Some, is_some}
+use Rattle.std.proofs.lemmas.Bool.{false≢true}
+use Rattle.sqlite.specs.Held.{state}
+use Rattle.sqlite.specs.State.{HasCleanDisk, State}
+use Rattle.sqlite_trees.specs.declared.store.Store.{Ghosts}
+use Rattle.archive_core.specs.Steps.{refused_at}
+use Rattle.archive_core.specs.declared.request.Request.{Request}
+use Rattle.archive_state.specs.Content.{Content}
+use Rattle.archive_state.specs.Looks.{Looked}
+use Rattle.csv.specs.Records.{Row as Record}
+use Rattle.record_text.specs.declared.refusal.RefusalKind.{RefusalKind}
+use Rattle.record_text.specs.declared.refusal.RefusalKind.TheVariants.{Storage}
+use Rattle.request_csv.specs.Input.{Row}
+use Rattle.row_references.specs.References.{has_references}
+use Rattle.staging.specs.Opened.{Import}
+use Rattle.store.specs.Calls.{Performs}
+use Rattle.store.specs.Histories.{Outcome}
+use Rattle.store.specs.Looking.{StaysReadable}
+use Rattle.store.specs.Shut.{is_shut}
+use Rattle.store.specs.Standing.{shuts}
+use Rattle.store.specs.Viewing.{Kept, OnReadable, Shows}
+use Rattle.store.specs.declared.archive.Archive.{Archive}
+use Rattle.store.proofs.Histories.{performs_then}
+use Rattle.store.proofs.Viewed.{kept_of, seen_of}
+use Rattle.store_tables.specs.Calls.{LeavesOnly, Settled}
+use Rattle.store_tables.specs.Rows.{Rows}
+use Rattle.archive_input.specs.Answers.{Served}
+use Rattle.archive_input.specs.Applying.{IsServedIn, OnlyLooks, Steps, StepsRow}
+use Rattle.archive_input.specs.declared.bad_request.BadRequest.{BadRequest}
+
+-- ---- looks, by the tables
+-- the outcome of a request of which nobody knows whether it was done
+abbrev pub failing : Outcome
+failing = Err (refused_at None Storage)
+
+module _ (old new : State) (lost : Bool) (stays : StaysReadable old lost new) where
+  performs_looked : lost ≡ false → Performs old [] new
+  performs_looked sure = record {
+    done = λ none society c has.
+        (c, refl, (has.0, stays.same sure has.0 c has.1 (seen_of has.2), has.2));
+    rows = λ none society c rows was keeps. (
+      c,
+      rows,
+      (refl, refl),
+      stays.same sure rows c was (seen_of keeps),
+      keeps,
+      λ closed. closed,
+    );
+    crash = λ society c has t l. (c, refl, (has.0, stays.crash has.0 c has.1 (seen_of has.2) t l, has.2));
+    clean = stays.clean;
+  }
+
+  performs_failing : (r : Request) → Performs old ((r, failing) ∷ []) new
+  performs_failing r = record {
+    done = λ none. let wrong : ⊥ = cc in absurd wrong;
+    rows = λ none. let wrong : ⊥ = cc in absurd wrong;
+    crash = λ society c has t l.
+        (c, (c, refl, inl refl), (has.0, stays.crash has.0 c has.1 (seen_of has.2) t l, has.2));
+    clean = stays.clean;
+  }
+
+-- what looks of an archive that was not lost have found, and what they leave
+pub viewed_looks : (old new : State) (lost lost_now : Bool) (failures failures_now : ℕ) (P : Content → Type 0)
+    → failures ≡ 0 → ((rows : Rows) → Settled old rows → LeavesOnly old rows)
+    → (HasCleanDisk new → HasCleanDisk old × ((kept : Kept) → Shows old lost failures kept
+    → Shows new lost_now failures_now kept × P kept.content))
+    → HasCleanDisk new → StaysReadable old lost_now new × OnReadable old (λ rows c. P c)
+viewed_looks old new lost lost_now failures failures_now P none leaves viewed clean =
+    let at = viewed clean in (
+      record {
+        same = λ sure rows c was seen. (at.1 (kept_of rows c seen)
+            (record { crash = leaves rows was; settled = λ _. was; none = λ _. none })).0.settled sure;
+        crash = λ rows c was seen. (at.1 (kept_of rows c seen)
+            (record { crash = leaves rows was; settled = λ _. was; none = λ _. none })).0.crash;
+        clean = at.0;
+      },
+      λ rows c was seen. (at.1 (kept_of rows c seen)
+          (record { crash = leaves rows was; settled = λ _. was; none = λ _. none })).1,
+    )
+
+-- what is handed on of what looks have found
+module _ (found kept : Result (Option Record) RefusalKind) (P : Option Record → Type 0) where
+  looked_then : IfOk kept (λ own. found ≡ Ok own) → Looked found P → IfOk kept P
+  looked_then is looked = elim kept as (λ (r : Result (Option Record) RefusalKind). IfOk r (λ own. found ≡ Ok own)
+      → IfOk r P) [
+        | Ok own ↦ λ same. subst (λ (r : Result (Option Record) RefusalKind). Looked r P) same looked
+        | Err kind ↦ λ same. tt
+      ] is
+
+  pub form_then : IfOk kept (λ own. found ≡ Ok own) → IfOk found P → IfOk kept P
+  form_then is form = elim kept as (λ (r : Result (Option Record) RefusalKind). IfOk r (λ own. found ≡ Ok own)
+      → IfOk r P) [
+        | Ok own ↦ λ same. subst (λ (r : Result (Option Record) RefusalKind). IfOk r P) same form
+        | Err kind ↦ λ same. tt
+      ] is
+
+pub found_then : (old new : State) (lost : Bool) (found kept : Result (Option Record) RefusalKind)
+    (P : Content → Option Record → Type 0) → IfOk kept (λ own. found ≡ Ok own)
+    → (HasCleanDisk new → StaysReadable old lost new × OnReadable old (λ rows c. Looked found (P c)))
+    → HasCleanDisk new → StaysReadable old lost new × OnReadable old (λ rows c. IfOk kept (P c))
+found_then old new lost found kept P is looks clean =
+    let seen = looks clean in (seen.0, λ rows c was keeps. looked_then found kept (P c) is (seen.1 rows c was keeps))
+
+-- ---- archives
+module _ {S : Type 0} (g : Ghosts S) where
+  or_true : (b : Bool) → (b || true) ≡ true
+  or_true true = refl
+  or_true false = refl
+
+  pub shut_lost : (a : Archive S g) → a.is_lost ≡ true → is_shut a ≡ true
+  shut_lost a lost = ap (λ (l : Bool). shuts l a.import) lost ∙ or_true (is_some a.import)
+
+  none_open : (lost : Bool) (i : Option Import) → shuts lost i ≡ false → shuts false i ≡ false
+  none_open lost None was = refl
+  none_open lost (Some i) was = absurd (false≢true (sym was))
+
+  -- looks open no import
+  pub free_of : (old mid : Archive S g) → is_shut old ≡ false → mid.is_lost ≡ false → mid.import ≡ old.import
+      → is_shut mid ≡ false
+  free_of old mid was sure same = ap (λ (l : Bool). shuts l mid.import) sure
+      ∙ ap (λ (i : Option Import). shuts false i) same ∙ none_open old.is_lost old.import was
+
+  -- nothing is said of an archive that takes none
+  pub not_asked : (row : Row) (s : Served) (old new : Archive S g) → is_shut old ≡ true → IsServedIn g row s old new
+  not_asked row s old new shut = λ clean was. absurd (false≢true (sym was ∙ shut))
+
+  -- a clean disk was clean before
+  pub clean_of : (mid new : Archive S g) (s : Served) → is_shut mid ≡ false → Steps g s mid new
+      → HasCleanDisk (state g new.conn) → HasCleanDisk (state g mid.conn)
+  clean_of mid new (Ok done) free steps clean = (steps.0 clean free).clean
+  clean_of mid new (Err bad) free same clean = subst (λ (a : Archive S g). HasCleanDisk (state g a.conn)) same clean
+
+  module _ (row : Row) (old mid : Archive S g) (refers : has_references row ≡ true) (was : is_shut old ≡ false)
+      (looks : HasCleanDisk (state g mid.conn) → StaysReadable (state g old.conn) mid.is_lost (state g mid.conn)) where
+    -- looks that did not fail
+    only_looks : mid.is_lost ≡ false → is_shut mid ≡ false → OnlyLooks g row old mid
+    only_looks sure free = (
+      refers,
+      was,
+      free,
+      λ clean _. performs_looked (state g old.conn) (state g mid.conn) mid.is_lost (looks clean) sure,
+    )
+
+    -- the row is refused then
+    pub steps_refused : (bad : BadRequest) → mid.is_lost ≡ false → is_shut mid ≡ false
+        → StepsRow g row (Err bad) old mid
+    steps_refused bad sure free = inr (only_looks sure free)
+
+    -- what is done after them
+    pub steps_looked : (new : Archive S g) (s : Served) → mid.is_lost ≡ false → is_shut mid ≡ false
+        → Steps g s mid new → StepsRow g row s old new
+    steps_looked new (Ok done) sure free steps = (
+      λ clean _.
+          let p = steps.0 clean free in
+          performs_then (state g old.conn) (state g mid.conn) (state g new.conn) [] (done ∷ [])
+          (performs_looked (state g old.conn) (state g mid.conn) mid.is_lost (looks p.clean) sure) refl p,
+      λ _. steps.1 free,
+      λ shut. absurd (false≢true (sym was ∙ shut)),
+    )
+    steps_looked new (Err bad) sure free same =
+        inr (subst (λ (a : Archive S g). OnlyLooks g row old a) (sym same) (only_looks sure free))
+
+    -- looks failed: nobody did anything of the row
+    pub steps_failing : (r : Request) → is_shut mid ≡ true → StepsRow g row (Ok (r, failing)) old mid
+    steps_failing r lost = (
+      λ clean _. performs_failing (state g old.conn) (state g mid.conn) mid.is_lost (looks clean) r,
+      λ _. lost,
+      λ shut. absurd (false≢true (sym was ∙ shut)),
+    )
