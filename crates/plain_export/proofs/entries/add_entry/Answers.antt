@@ -19,8 +19,8 @@ returns-clause-refused c =
     let xs : List Noted = noted (get_by_text c.args.firsts.now.numbers) e in
     let same : c.deref-2.result.now ≡ xs = c.deref-2.ensures.value ∙ c.in_ok-noted.ensures.made in
     let numbers : c.deref-3.result.now ≡ cited xs =
-        c.deref-3.ensures.value ∙ c.in_ok-numbers.ensures
-        ∙ ap (λ (ys : List Noted). cited ys) (c.deref.ensures.value ∙ c.in_ok-noted.ensures.made) in
+    c.deref-3.ensures.value ∙ c.in_ok-numbers.ensures
+    ∙ ap (λ (ys : List Noted). cited ys) (c.deref.ensures.value ∙ c.in_ok-noted.ensures.made) in
     fails_by c.add_cited.result
     (λ whole. subst (λ (ns : List ℕ). AddedFit (cited_or_noted a e c.deref-2.result.now ns)) (sym numbers)
     (subst (λ (ys : List Noted). AddedFit (cited_or_noted a e ys (cited xs))) (sym same) whole.1))

@@ -10,7 +10,7 @@ returns-in_err-association-clause-refused c =
     rw same (weaker _ (added_in (λ (p : model.Participant).
     add c.args.person (association c.args.state.now.records c.args.event.now p))
     c.args.event.now.participants c.deref-participant-items.result.now c.participants.participant-index
-    c.participant-item.result 
+    c.participant-item.result
     (c.deref-participant-items.ensures.value ∙ ap (λ (e : model.Event). e.participants) c.event.view_is)
     c.participants-test.true c.participant-item.is)
     c.in_err-association.ensures.refused)

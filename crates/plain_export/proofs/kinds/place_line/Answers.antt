@@ -20,7 +20,7 @@ returns-in_err-text-clause-refused c =
 
 pub returns-clause-refused : goal.returns-clause-refused
 returns-clause-refused c = fails_by c.line.result
-    (λ whole. subst (λ (ts : Lines). forest_levels (forest_of ts) ≤ 98) 
+    (λ whole. subst (λ (ts : Lines). forest_levels (forest_of ts) ≤ 98)
     (sym (c.in_ok-below.ensures ∙ ap (λ (ts : Lines). kept c.args.state.now.records ts)
     (c.deref.ensures.value ∙ ap (λ (p : model.EventPlace). p.carried) c.place.view_is))) whole.1.0)
     c.line.ensures.refused
