@@ -43,8 +43,10 @@ LAWS_SAID = {
     "gedcom_tree: a_file_is_one_thing a_decided_fault_stays a_text_is_read_again a_line_of_a_text_is_short",
     "imports": "imports: an_import_leaves_an_archive_sound an_import_draws_new_numbers an_import_changes_no_record; "
     "plain_export: what_the_standard_has_is_in_a_plain_archive no_name_with_a_text_is_left_out partners_stay "
-    "the_value_of_an_event_stands_or_is_noted the_page_of_a_citation_stands_or_is_noted "
-    "an_entry_without_a_link_is_noted the_entry_of_a_linked_mention_is_cited; round_trip: an_export_has_all_records "
+    "the_value_of_an_event_stands_or_is_noted the_date_and_the_place_of_an_event_stand "
+    "the_page_of_a_citation_stands_or_is_noted an_entry_without_a_link_is_noted "
+    "the_entry_of_a_linked_mention_is_cited the_citation_of_an_entry_has_its_page_date_and_text; "
+    "plain_reports: what_is_counted_is_left_out what_is_left_out_is_counted; round_trip: an_export_has_all_records "
     "an_export_keeps_orders nothing_is_reported_of_an_export an_export_gives_the_same_records",
     "visitors": "masking: an_archive_has_one_masked_state what_is_shown_is_sound of_the_living_nothing_is_shown "
     "events_of_the_living_are_gone what_is_hidden_changes_nothing; tasks: what_is_hidden_changes_no_plain_run; "

@@ -314,8 +314,8 @@ WITH_LINES = (
 0 @X9@ _TODO look again
 """,
     """  left out: 2 places with lines of their own
-  left out: 1 places that nothing names
-  left out: 1 records with a tag of our own
+  left out: 1 place that nothing names
+  left out: 1 record with a tag of our own
   left out: 2 second sexes of persons
 """,
 )
@@ -331,8 +331,21 @@ WITHOUT_LINES = (
 0 @I7@ INDI
 1 NAME Living
 """,
-    "  left out: 1 places that nothing names\n",
+    "  left out: 1 place that nothing names\n",
 )
+
+
+# One of each kind: a count of one has the singular.
+ONE_OF_EACH = between(
+    "0 @P1@ _LOC", "1 NAME Kent", "1 NOTE by the sea",
+    "0 @I1@ INDI", "1 NAME Ann /Lee/", "1 SEX F", "1 SEX M",
+    "0 @E1@ _REG BURIAL", "1 NOTE torn",
+)  # fmt: skip
+ONE_LEFT_OUT = """  left out: 1 place with lines of its own
+  left out: 1 place that nothing names
+  left out: 1 record with a tag of our own
+  left out: 1 second sex of a person
+"""
 
 
 def plain(at, *words, **how):
@@ -357,10 +370,10 @@ def of_files(tools):
 def what_is_left_out(tools):
     """Places that nothing names, also of what is shown; no line where nothing is left out."""
     rows = ("a,place,Kent,", "b,place,Ashby,1", "c,place,Hill,", "d,person,Ann,F", "e,event,4,BIRT,,1 may 1990,2")
-    for words, number in (((), 1), (("--public", *TODAY), 2)):
+    for words, number in (((), "1 place"), (("--public", *TODAY), "2 places")):
         with Exported(tools) as at:
             got = plain(at.with_rows(rows), *words)
-            wanted = f"  left out: {number} places that nothing names\n"
+            wanted = f"  left out: {number} that nothing names\n"
             demand(got.status == 0 and got.err == wanted.encode(), f"{words}: {got}")
             demand(got.out.endswith(TRAILER.encode()), f"{words}: {got}")
 
@@ -374,11 +387,18 @@ def each_kind_that_is_left_out(tools):
             expect(plain(at, *words), wanted)
 
 
+def one_of_each_kind(tools):
+    with Imported(tools) as at:
+        demand(at.made().import_(ONE_OF_EACH).status == 0, "the import")
+        got = plain(at)
+        demand((got.status, got.err) == (0, ONE_LEFT_OUT.encode()), f"{got}")
+
+
 def standard_error_fails(tools):
     """The file is written whole, and the status is 0."""
     with Exported(tools) as at, open("/dev/full", "wb") as full:
         whole = plain(at.with_rows(("a,place,Kent,",)))
-        demand(whole.err == b"  left out: 1 places that nothing names\n", f"{whole}")
+        demand(whole.err == b"  left out: 1 place that nothing names\n", f"{whole}")
         expect(plain(at, stderr=full), written(whole.out))
 
 
@@ -398,7 +418,7 @@ def nothing_of_ours(tools):
 def the_public_one(tools):
     """The living are masked, and a place that only something hidden names is not in it; the whole one has both."""
     with Exported(tools) as at:
-        said = b"  left out: 1 places that nothing names\n"
+        said = b"  left out: 1 place that nothing names\n"
         wanted = Outcome((HEADER + PUBLIC + TRAILER).encode(), said, 0)
         expect(plain(at.with_rows(LIVING), "--public", *TODAY), wanted)
         whole = plain(at).out
@@ -423,6 +443,18 @@ def what_stops_it(tools):
         expect(plain(at, "--public", *TODAY, stdout=full), refused(95))
 
 
+def too_long_for_a_text(tools):
+    """The note of an entry without a link, of 1,048,576 bytes, and of one more: that cannot be a text."""
+    words = "f. 9, no. 2: BURIAL\nburied Kit\n"
+    for more, status in ((0, 0), (1, 1)):
+        with Exported(tools) as at:
+            text = "x" * (1_048_576 - len(words) + more)
+            at.with_rows(("a,source,Register,,,,", f"b,entry,1,BURIAL,f. 9,2,,,{text},buried,Kit"))
+            got = plain(at)
+            demand(got.status == status and (more == 0 or got == refused(70)), f"{more}: {got.status}, {got.err}")
+            demand(at.export().status == 0, "the usual export")
+
+
 def the_reader_leaves(tools):
     """In the middle of a plain export of 900,000 bytes: what it got is a prefix."""
     with Exported(tools) as at:
@@ -435,11 +467,13 @@ TESTS = (
     of_files,
     what_is_left_out,
     each_kind_that_is_left_out,
+    one_of_each_kind,
     standard_error_fails,
     nothing_of_ours,
     the_public_one,
     nothing_changes,
     what_stops_it,
+    too_long_for_a_text,
     the_reader_leaves,
 )
 

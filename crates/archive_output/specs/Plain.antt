@@ -2,10 +2,10 @@
 use Rattle.std.specs.Prelude.{◌≡◌, ◌⊎◌, ℕ, ℤ, false, List, Option}
 use Rattle.archive_state.specs.Content.{Content, Records}
 use Rattle.archive_state.specs.Looks.{is_failure}
-use Rattle.devices.specs.Devices.{AppendsBeginning}
 use Rattle.gedcom_export.specs.Ends.{IsWhole}
 use Rattle.gedcom_export.specs.Forest.{exported}
 use Rattle.gedcom_tree.specs.Text.{text}
+use Rattle.plain_export.specs.Fitting.{IsPlainBegun}
 use Rattle.plain_export.specs.Plain.{IsPlain}
 use Rattle.plain_reports.specs.Texts.{left_out_text}
 use Rattle.record_text.specs.declared.refusal.RefusalKind.{RefusalKind}
@@ -21,10 +21,12 @@ abbrev pub IsPlainWhole : Option (List ℕ) → Option (List ℕ) → List ℕ �
 IsPlainWhole before after left_out society c =
     OnPlain society (IsWhole before after) c × (left_out ≡ left_out_text c.records)
 
--- a prefix of it was. The archive was read before, so it is neither 40 nor 80
+-- a prefix of it was, for a reason that stops a plain export: memory was refused, the writer failed, or, at 70, the
+-- text has more than 67,108,864 bytes or the plain archive cannot be made. The archive was read before, so it is
+-- neither 40 nor 80
 abbrev pub IsPlainCut : RefusalKind → Option (List ℕ) → Option (List ℕ) → List ℕ → Content → Type 0
-IsPlainCut kind before after society c =
-    (is_failure kind ≡ false) × OnPlain society (AppendsBeginning before after) c
+IsPlainCut kind before after society c = (is_failure kind ≡ false)
+    × OnPlain society (λ bytes. IsPlainBegun before after c.records bytes kind) c
 
 -- the same, or memory was refused or the database failed before anything was written
 abbrev pub IsPlainPart : RefusalKind → Option (List ℕ) → Option (List ℕ) → List ℕ → Content → Type 0

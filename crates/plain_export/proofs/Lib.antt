@@ -1,5 +1,6 @@
 pub mod Trimming
 pub mod Among
+pub mod Failing
 pub mod Whole
 pub mod Marking
 pub mod Getting

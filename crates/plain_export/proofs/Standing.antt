@@ -22,17 +22,21 @@ use Rattle.std.proofs.Common.{
   map,
   eqb-true,
 }
-use Rattle.std.specs.Prelude.{◌||◌, not, codes, Some, None}
+use Rattle.std.specs.Prelude.{◌||◌, not, codes, Option, Some, None}
 use Rattle.std.specs.List.{filter, flat_map, list_any}
 use Rattle.std.specs.Str.{bytes_eq}
 use Rattle.std.proofs.lemmas.List.{append_assoc, map-append}
 use Rattle.std.proofs.lemmas.List.Elements.{filter-append}
 use Rattle.std.proofs.lemmas.Grind.{flat_map-append}
 use Rattle.std.proofs.lemmas.Simd.{map-map}
-use Rattle.stored_lines.specs.Line.{Lines}
+use Rattle.stored_lines.specs.Line.{Line, Lines}
+use Rattle.stored_lines.specs.Tree.{Tree}
+use Rattle.stored_lines.specs.declared.carried.Value.TheVariants as value
+use Rattle.record_fields.specs.declared.date.Date.{Date}
 use Rattle.record_kinds.specs.Model as model
-use Rattle.record_shapes.specs.Shapes.{Around, text_line}
+use Rattle.record_shapes.specs.Shapes.{Around, line, text_line}
 use Rattle.archive_state.specs.Content.{Records}
+use Rattle.plain_export.specs.Added.{below_citation, below_data, data_of, date_lines, is_of, note_line}
 use Rattle.plain_export.specs.Allowed.{
   has_lines,
   have_one_role,
@@ -42,14 +46,17 @@ use Rattle.plain_export.specs.Allowed.{
   lined_value,
   may_have,
   one_line,
+  page_line,
   page_note,
   said_lines,
   second_in_other,
   short_page,
+  value_note,
 }
 use Rattle.plain_export.specs.Kept.{kept}
 use Rattle.plain_export.specs.Plain.{
   IsAmong,
+  place_line,
   place_lines,
   plain_citation,
   plain_event,
@@ -59,6 +66,8 @@ use Rattle.plain_export.specs.Plain.{
   plain_partner,
   plain_person,
 }
+use Rattle.plain_export.specs.Words.{page_words}
+use Rattle.plain_export.specs.declared.noted.Noted.{Noted}
 
 -- ---- lists
 pub mapped : {A B : Type 0} (f : A → B) (x : A) (xs : List A) → IsAmong x xs → IsAmong (f x) (map f xs)
@@ -167,3 +176,34 @@ pub page_stays : (m : Records) (c : model.Citation) (page : List ℕ) → c.page
 page_stays m c page at = subst (λ o. (short_page o ≡ Some (one_line page))
     ⊎ IsAmong (text_line (codes "NOTE") page) (page_note o ++ kept m c.carried)) (sym at)
     (paged page (kept m c.carried) (is_long page))
+
+-- ---- dates and places
+pub place_stands : (m : Records) (a : Around) (more : Lines) (e : model.Event) (p : model.EventPlace)
+    → e.place ≡ Some p → IsAmong (place_line m a p) (plain_event m a more e).carried
+place_stands m a more e p at =
+    let after : Lines = value_note e.tag e.value ++ (kept m e.carried ++ more) in
+    subst (λ (o : Option model.EventPlace). IsAmong (place_line m a p) (place_lines m a o ++ after)) (sym at)
+    ([], after, refl)
+
+-- ---- citations of entries
+pub data_stand : (e : model.Entry) (xs : List Noted) (n : ℕ) (t : Tree Line) → IsAmong t (below_data e)
+    → IsAmong (line (codes "DATA") (value.Text []) (below_data e)) (below_citation e xs n)
+data_stand e xs n t among =
+    let notes : Lines = map note_line (filter (λ (x : Noted). is_of n x.at) xs) in
+    of_some (page_line (page_words e)) notes (below_data e) among.0 t among.1 among.2
+  where
+    of_some : (p : Tree Line) (notes ts front : Lines) (t : Tree Line) (back : Lines) → ts ≡ front ++ t ∷ back
+        → IsAmong (line (codes "DATA") (value.Text []) ts) (p ∷ (data_of ts ++ notes))
+    of_some p notes [] [] t back is = absurd cc
+    of_some p notes [] (f ∷ front) t back is = absurd cc
+    of_some p notes (u ∷ us) front t back is = (p ∷ [], notes, refl)
+
+pub date_among : (e : model.Entry) (d : Date) → e.date ≡ Some d
+    → IsAmong (text_line (codes "DATE") d.text) (below_data e)
+date_among e d at = subst (λ (o : Option Date). IsAmong (text_line (codes "DATE") d.text)
+    (date_lines o ++ said_lines (codes "TEXT") e.text)) (sym at) ([], said_lines (codes "TEXT") e.text, refl)
+
+pub text_among : (e : model.Entry) (b : ℕ) (bs : List ℕ) → e.text ≡ b ∷ bs
+    → IsAmong (text_line (codes "TEXT") e.text) (below_data e)
+text_among e b bs at = subst (λ (text : List ℕ). IsAmong (text_line (codes "TEXT") text)
+    (date_lines e.date ++ said_lines (codes "TEXT") text)) (sym at) (date_lines e.date, [], refl)

@@ -1,12 +1,12 @@
 -- The plain archive: there is one, and what is made is it.
-use Rattle.std.proofs.Common.{◌≡◌, ◌++◌, ◌∷◌, [], ℕ, List, sym, ap, subst, ◌∙◌, map}
+use Rattle.std.proofs.Common.{◌≡◌, ◌++◌, ◌∷◌, [], ℕ, List, length, sym, ap, subst, ◌∙◌, map}
 use Rattle.std.proofs.lemmas.List.{append-nil, append_assoc}
 use Rattle.std.specs.Ordering.{nat_cmp}
 use Rattle.std.specs.Prelude.{Option, Some, Result, Ok, Err, MatchResult}
 use Rattle.std.specs.Cmp.{nat_cmp_total}
 use Rattle.std.specs.FinMap.{empty, entries, get, get-empty, keys, nat_cmp-IsAntisymmetric, same_map}
-use Rattle.devices.specs.Devices.{AppendsBeginning}
 use Rattle.record_text.specs.declared.refusal.Refusal.{Refusal}
+use Rattle.record_text.specs.declared.refusal.RefusalKind.{RefusalKind}
 use Rattle.record_kinds.specs.declared.record.Record.{Record}
 use Rattle.record_shapes.specs.Shapes.{Around}
 use Rattle.archive_state.specs.Content.{Records}
@@ -17,10 +17,12 @@ use Rattle.gedcom_export.specs.Owned.{IsArrangedBy}
 use Rattle.gedcom_export.specs.Shown.{around_in}
 use Rattle.gedcom_export.proofs.Places.{paths_are}
 use Rattle.plain_export.specs.Added.{added, lines_of}
+use Rattle.plain_export.specs.Fitting.{IsPlainBegun}
 use Rattle.plain_export.specs.Made.{AreMade, made_at, put_if}
 use Rattle.plain_export.specs.Plain.{IsPlain, added_to, plain_at}
 use Rattle.plain_export.specs.declared.added.Added.{Added}
 use Rattle.plain_export.proofs.Among.{ArePut, all_made, one_more}
+use Rattle.plain_export.proofs.Failing.{plain_reason}
 
 -- what has to stand at more numbers can be put there
 put_all : (at : ℕ → Option Record) (ns js : List ℕ) (made : Records) → ArePut at ns made
@@ -68,8 +70,13 @@ made_is m made x xs h sorted made_at = record {
 }
 
 -- how the export of a plain archive ends
-pub ends : {A : Type 0} (r : Result A Refusal) (old new : Option (List ℕ)) (t u : List ℕ) → t ≡ u
+begun : (m : Records) (old new : Option (List ℕ)) (t : List ℕ) (e : RefusalKind) → IsBegun old new t e
+    → IsPlainBegun old new m t e
+begun m old new t e h = record { reason = plain_reason m (length t) e h.reason; written = h.written }
+
+pub ends : {A : Type 0} (m : Records) (r : Result A Refusal) (old new : Option (List ℕ)) (t u : List ℕ) → t ≡ u
     → MatchResult r (λ _. IsWhole old new t) (λ e. IsBegun old new t e.kind)
-    → MatchResult r (λ _. IsWhole old new u) (λ e. AppendsBeginning old new u)
-ends (Ok a) old new t u same h = subst (IsWhole old new) same h
-ends (Err e) old new t u same h = subst (AppendsBeginning old new) same h.written
+    → MatchResult r (λ _. IsWhole old new u) (λ e. IsPlainBegun old new m u e.kind)
+ends m (Ok a) old new t u same h = subst (IsWhole old new) same h
+ends m (Err e) old new t u same h =
+    subst (λ (x : List ℕ). IsPlainBegun old new m x e.kind) same (begun m old new t e.kind h)

@@ -4,5 +4,6 @@ pub mod Words
 pub mod Firsts
 pub mod Added
 pub mod Plain
+pub mod Fitting
 pub mod Made
 pub mod LeftOut

@@ -10,7 +10,7 @@ use crate::lines::put_text;
 use crate::one_line::one_line;
 use record_fields::Partnership;
 use record_kinds::{Name, Partner};
-use record_text::{RefusalKind, Text};
+use record_text::Text;
 use std::alloc::{AllocError, Global};
 use stored_lines::Carried;
 
@@ -141,7 +141,7 @@ pub(crate) fn put_value(
     tag: &str,
     text: &Text,
     lines: &mut Vec<Carried>,
-) -> Result<(), RefusalKind>
+) -> Result<(), AllocError>
     ensures { OnOk result (lines.new.items ≡ lines.old.items ++ allowed.value_note tag.now text.now) }
 {
     if may_have(tag, text.as_str()) {

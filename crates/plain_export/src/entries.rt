@@ -1,15 +1,16 @@
 //! What a register entry adds: citations, or a note.
 
-ghost use Rattle.std.specs.Prelude.{◌≡◌, ◌++◌, ◌∷◌, [], IfOk, OnOk, map, string_bytes};
+ghost use Rattle.std.specs.Prelude.{◌≡◌, ◌++◌, ◌∷◌, [], IfErr, IfOk, OnOk, map, string_bytes};
 ghost use Rattle.std.specs.BTreeMap.{get_by_text};
 ghost use Rattle.std.specs.List.{filter};
 ghost use Rattle.gedcom_export.specs.Shown.{around_in};
 ghost use Rattle.plain_export.specs.Added as adding;
+ghost use Rattle.plain_export.specs.Fitting.{AddedFit, EntryFits, Fails, Fits, LinesFit};
 ghost use Rattle.plain_export.specs.declared.noted.Noted as declared;
 
 use crate::added::{Added, add};
 use crate::firsts::Firsts;
-use crate::lines::{line, put_line, put_text, words_line};
+use crate::lines::{line, put_line, put_text, text_line, words_line};
 use crate::noted::{Noted, cited, is_of, note_line, noted_all};
 use crate::pages::page_line;
 use crate::words::{entry_words, page_words};
@@ -22,18 +23,17 @@ use std::alloc::{AllocError, Global};
 use stored_lines::{Carried, Value};
 
 /// Puts the line of a date, where there is one.
-fn put_date(alloc: Global, date: &Option<Date>, below: &mut Vec<Carried>) -> Result<(), RefusalKind>
+fn put_date(alloc: Global, date: &Option<Date>, below: &mut Vec<Carried>) -> Result<(), AllocError>
     ensures { OnOk result (below.new.items ≡ below.old.items ++ adding.date_lines date.now) }
 {
     if let Some(date) = date {
-        let words = String::from_str(alloc, date.as_str())?;
-        put_line(below, words_line(alloc, "DATE", words)?)?;
+        put_line(below, text_line(alloc, "DATE", date.text(alloc)?)?)?;
     }
     Ok(())
 }
 
 /// The date and the text of an entry.
-fn below_data(alloc: Global, entry: &Entry) -> Result<Vec<Carried>, RefusalKind>
+fn below_data(alloc: Global, entry: &Entry) -> Result<Vec<Carried>, AllocError>
     ensures { IfOk result (λ made. made.items ≡ adding.below_data entry.now) }
 {
     let mut below = Vec::new(alloc);
@@ -44,7 +44,8 @@ fn below_data(alloc: Global, entry: &Entry) -> Result<Vec<Carried>, RefusalKind>
 
 /// Puts the data of an entry, where there are some.
 fn put_data(alloc: Global, entry: &Entry, below: &mut Vec<Carried>) -> Result<(), RefusalKind>
-    ensures { OnOk result (below.new.items ≡ below.old.items ++ adding.data_lines entry.now) }
+    ensures made { OnOk result (below.new.items ≡ below.old.items ++ adding.data_lines entry.now) }
+    ensures refused { IfErr result (λ e. Fails e (LinesFit (adding.data_lines entry.now))) }
 {
     let data = below_data(alloc, entry)?;
     if data.is_empty() {
@@ -61,7 +62,7 @@ fn put_notes(
     noted: &[Noted],
     number: u32,
     below: &mut Vec<Carried>,
-) -> Result<(), RefusalKind>
+) -> Result<(), AllocError>
     ensures { OnOk result (below.new.items ≡ below.old.items ++ map adding.note_line
         (filter (λ (x : declared.Noted). adding.is_of number x.at) noted.now)) }
 {
@@ -80,7 +81,8 @@ fn below_citation(
     noted: &[Noted],
     number: u32,
 ) -> Result<Vec<Carried>, RefusalKind>
-    ensures { IfOk result (λ made. made.items ≡ adding.below_citation entry.now noted.now number) }
+    ensures made { IfOk result (λ made. made.items ≡ adding.below_citation entry.now noted.now number) }
+    ensures refused { IfErr result (λ e. Fails e (LinesFit (adding.below_citation entry.now noted.now number))) }
 {
     let mut below = Vec::new(alloc);
     let page = page_line(alloc, page_words(alloc, entry)?)?;
@@ -97,7 +99,8 @@ fn citation(
     noted: &[Noted],
     number: u32,
 ) -> Result<Carried, RefusalKind>
-    ensures { IfOk result (λ c. c ≡ adding.citation entry.now noted.now number) }
+    ensures made { IfOk result (λ c. c ≡ adding.citation entry.now noted.now number) }
+    ensures refused { IfErr result (λ e. Fails e (Fits (adding.citation entry.now noted.now number))) }
 {
     let below = below_citation(alloc, entry, noted, number)?;
     line(alloc, "SOUR", Value::Ref(entry.source), below)
@@ -111,8 +114,10 @@ fn add_citations(
     numbers: &[u32],
     added: &mut Vec<Added>,
 ) -> Result<(), RefusalKind>
-    ensures { OnOk result (added.new.items ≡ added.old.items
+    ensures made { OnOk result (added.new.items ≡ added.old.items
         ++ adding.citations entry.now noted.now numbers.now) }
+    ensures refused { IfErr result
+        (λ e. Fails e (AddedFit (adding.citations entry.now noted.now numbers.now))) }
 {
     'numbers: for number in numbers {
         add(added, *number, citation(alloc, entry, noted, *number)?)?;
@@ -132,7 +137,8 @@ fn path_of(alloc: Global, index: &Index, place: Option<u32>) -> Result<String, A
 
 /// The note of an entry without a link.
 fn entry_note(alloc: Global, index: &Index, entry: &Entry) -> Result<Carried, RefusalKind>
-    ensures { IfOk result (λ c. c ≡ adding.entry_note (around_in index.now) entry.now) }
+    ensures made { IfOk result (λ c. c ≡ adding.entry_note (around_in index.now) entry.now) }
+    ensures refused { IfErr result (λ e. Fails e (Fits (adding.entry_note (around_in index.now) entry.now))) }
 {
     let path = path_of(alloc, index, entry.place)?;
     words_line(alloc, "NOTE", entry_words(alloc, path.as_str(), entry)?)
@@ -146,8 +152,10 @@ pub(crate) fn add_entry(
     entry: &Entry,
     added: &mut Vec<Added>,
 ) -> Result<(), RefusalKind>
-    ensures { OnOk result (added.new.items ≡ added.old.items
+    ensures made { OnOk result (added.new.items ≡ added.old.items
         ++ adding.added_by_entry (around_in index.now) (get_by_text firsts.now.numbers) entry.now) }
+    ensures refused { IfErr result
+        (λ e. Fails e (EntryFits (around_in index.now) (get_by_text firsts.now.numbers) entry.now)) }
 {
     let noted = noted_all(alloc, firsts, entry)?;
     let numbers = cited(alloc, &noted)?;
@@ -162,8 +170,10 @@ fn add_cited(
     numbers: &[u32],
     added: &mut Vec<Added>,
 ) -> Result<(), RefusalKind>
-    ensures { OnOk result (added.new.items ≡ added.old.items
+    ensures made { OnOk result (added.new.items ≡ added.old.items
         ++ adding.cited_or_noted (around_in index.now) entry.now noted.now numbers.now) }
+    ensures refused { IfErr result (λ e. Fails e
+        (AddedFit (adding.cited_or_noted (around_in index.now) entry.now noted.now numbers.now))) }
 {
     if numbers.is_empty() {
         let note = entry_note(alloc, index, entry)?;

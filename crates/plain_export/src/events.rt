@@ -1,10 +1,11 @@
 //! What an event adds: who took part.
 
-ghost use Rattle.std.specs.Prelude.{◌≡◌, ◌++◌, IfOk, OnOk, map, option_copied, string_bytes};
+ghost use Rattle.std.specs.Prelude.{◌≡◌, ◌++◌, IfErr, IfOk, OnOk, map, option_copied, string_bytes};
 ghost use Rattle.std.specs.List.{flat_map};
 ghost use Rattle.record_kinds.specs.Model as model;
 ghost use Rattle.plain_export.specs.Added as adding;
 ghost use Rattle.plain_export.specs.Firsts.{persons_of};
+ghost use Rattle.plain_export.specs.Fitting.{AddedFit, Fails, Fits, LinesFit};
 
 use crate::added::{Added, add};
 use crate::kept::kept_lines;
@@ -30,7 +31,8 @@ fn shown(alloc: Global, found: Option<&Record>) -> Result<String, AllocError>
 
 /// The note below an event of who took part.
 fn note_of(alloc: Global, state: &State, participant: &Participant) -> Result<Carried, RefusalKind>
-    ensures { IfOk result (λ c. c ≡ adding.note_of state.now.records participant.now) }
+    ensures made { IfOk result (λ c. c ≡ adding.note_of state.now.records participant.now) }
+    ensures refused { IfErr result (λ e. Fails e (Fits (adding.note_of state.now.records participant.now))) }
 {
     let name = shown(alloc, state.record(participant.person))?;
     let words = with_words(alloc, name.as_str(), participant.role.as_str())?;
@@ -44,8 +46,10 @@ fn below_association(
     event: &Event,
     participant: &Participant,
 ) -> Result<Vec<Carried>, RefusalKind>
-    ensures { IfOk result (λ made. made.items
+    ensures made { IfOk result (λ made. made.items
         ≡ adding.below_association state.now.records event.now participant.now) }
+    ensures refused { IfErr result (λ e. Fails e
+        (LinesFit (adding.below_association state.now.records event.now participant.now))) }
 {
     let mut below = Vec::new(alloc);
     let relation = relation_words(alloc, participant.role.as_str())?;
@@ -65,7 +69,9 @@ fn association(
     event: &Event,
     participant: &Participant,
 ) -> Result<Carried, RefusalKind>
-    ensures { IfOk result (λ c. c ≡ adding.association state.now.records event.now participant.now) }
+    ensures made { IfOk result (λ c. c ≡ adding.association state.now.records event.now participant.now) }
+    ensures refused { IfErr result
+        (λ e. Fails e (Fits (adding.association state.now.records event.now participant.now))) }
 {
     let below = below_association(alloc, state, event, participant)?;
     line(alloc, "ASSO", Value::Ref(participant.person), below)
@@ -79,8 +85,10 @@ fn add_notes(
     participants: &[Participant],
     added: &mut Vec<Added>,
 ) -> Result<(), RefusalKind>
-    ensures { OnOk result (added.new.items ≡ added.old.items
+    ensures made { OnOk result (added.new.items ≡ added.old.items
         ++ map (λ (p : model.Participant). adding.add number (adding.note_of state.now.records p)) participants.now) }
+    ensures refused { IfErr result (λ e. Fails e (AddedFit
+        (map (λ (p : model.Participant). adding.add number (adding.note_of state.now.records p)) participants.now))) }
 {
     'participants: for participant in participants {
         add(added, number, note_of(alloc, state, participant)?)?;
@@ -96,8 +104,10 @@ fn add_associations(
     person: u32,
     added: &mut Vec<Added>,
 ) -> Result<(), RefusalKind>
-    ensures { OnOk result (added.new.items ≡ added.old.items
+    ensures made { OnOk result (added.new.items ≡ added.old.items
         ++ adding.associations state.now.records event.now person) }
+    ensures refused { IfErr result
+        (λ e. Fails e (AddedFit (adding.associations state.now.records event.now person))) }
 {
     'participants: for participant in &event.participants {
         add(
@@ -117,9 +127,12 @@ fn add_to_partners(
     partners: &[Partner],
     added: &mut Vec<Added>,
 ) -> Result<(), RefusalKind>
-    ensures { OnOk result (added.new.items ≡ added.old.items
+    ensures made { OnOk result (added.new.items ≡ added.old.items
         ++ flat_map (adding.associations state.now.records event.now)
         (map (λ (p : model.Partner). p.person) partners.now)) }
+    ensures refused { IfErr result (λ e. Fails e (AddedFit
+        (flat_map (adding.associations state.now.records event.now)
+        (map (λ (p : model.Partner). p.person) partners.now)))) }
 {
     'partners: for partner in partners {
         add_associations(alloc, state, event, partner.person, added)?;
@@ -135,9 +148,12 @@ fn add_to_owner(
     owner: Option<&Record>,
     added: &mut Vec<Added>,
 ) -> Result<(), RefusalKind>
-    ensures { OnOk result (added.new.items ≡ added.old.items
+    ensures made { OnOk result (added.new.items ≡ added.old.items
         ++ flat_map (adding.associations state.now.records event.now)
         (persons_of event.now.owner (option_copied owner.entry))) }
+    ensures refused { IfErr result (λ e. Fails e (AddedFit
+        (flat_map (adding.associations state.now.records event.now)
+        (persons_of event.now.owner (option_copied owner.entry))))) }
 {
     match owner {
         Some(Record::Person(_)) => add_associations(alloc, state, event, event.owner, added),
@@ -156,8 +172,10 @@ pub(crate) fn add_event(
     event: &Event,
     added: &mut Vec<Added>,
 ) -> Result<(), RefusalKind>
-    ensures { OnOk result (added.new.items ≡ added.old.items
+    ensures made { OnOk result (added.new.items ≡ added.old.items
         ++ adding.added_by_event state.now.records number event.now) }
+    ensures refused { IfErr result
+        (λ e. Fails e (AddedFit (adding.added_by_event state.now.records number event.now))) }
 {
     add_notes(alloc, state, number, &event.participants, added)?;
     add_to_owner(alloc, state, event, state.record(event.owner), added)

@@ -1,11 +1,14 @@
 //! What all records add, gathered in one pass.
 
-ghost use Rattle.std.specs.Prelude.{◌≡◌, ◌++◌, IfOk, OnOk, Some, option_copied};
+ghost use Rattle.std.specs.Prelude.{◌≡◌, ◌++◌, IfErr, IfOk, OnOk, Some};
 ghost use Rattle.std.specs.BTreeMap.{get_by_text};
+ghost use Rattle.std.specs.FinMap.{get};
 ghost use Rattle.std.specs.List.Sorted.{IsNonDecreasingBy};
 ghost use Rattle.gedcom_export.specs.Owned.{IsArrangedBy};
 ghost use Rattle.gedcom_export.specs.Shown.{around_in};
 ghost use Rattle.plain_export.specs.Added as adding;
+ghost use Rattle.plain_export.specs.Firsts as marking;
+ghost use Rattle.plain_export.specs.Fitting.{AdditionFits, AdditionsFit, Fails};
 ghost use Rattle.plain_export.specs.declared.added.Added as declared;
 
 use crate::added::{Added, sort_added};
@@ -24,8 +27,10 @@ pub(crate) fn arranged(
     state: &State,
     index: &Index,
 ) -> Result<Vec<Added>, RefusalKind>
-    ensures { IfOk result (λ made. IsArrangedBy (λ (x : declared.Added). x.number)
+    ensures made { IfOk result (λ made. IsArrangedBy (λ (x : declared.Added). x.number)
         (adding.added state.now.records (around_in index.now)) made.items) }
+    ensures refused { IfErr result (λ e. Fails e (AdditionsFit state.now.records (around_in index.now)
+        (marking.firsts state.now.records))) }
 {
     let mut made = gathered(alloc, state, index)?;
     sort_added(&mut made)?;
@@ -34,7 +39,9 @@ pub(crate) fn arranged(
 
 /// What all records add.
 fn gathered(alloc: Global, state: &State, index: &Index) -> Result<Vec<Added>, RefusalKind>
-    ensures { IfOk result (λ made. made.items ≡ adding.added state.now.records (around_in index.now)) }
+    ensures made { IfOk result (λ made. made.items ≡ adding.added state.now.records (around_in index.now)) }
+    ensures refused { IfErr result (λ e. Fails e (AdditionsFit state.now.records (around_in index.now)
+        (marking.firsts state.now.records))) }
 {
     let firsts = firsts_of(alloc, state)?;
     let numbers = state.record_numbers(alloc)?;
@@ -54,8 +61,10 @@ fn add_found(
     number: u32,
     made: &mut Vec<Added>,
 ) -> Result<(), RefusalKind>
-    ensures { OnOk result (made.new.items ≡ made.old.items
+    ensures made { OnOk result (made.new.items ≡ made.old.items
         ++ adding.added_at state.now.records (around_in index.now) (get_by_text firsts.now.numbers) number) }
+    ensures refused { IfErr result (λ e. Fails e (AdditionFits state.now.records (around_in index.now)
+        (get_by_text firsts.now.numbers) number (get state.now.records number))) }
 {
     match state.record(number) {
         Some(record) => add_record(alloc, state, index, firsts, number, record, made),
@@ -73,9 +82,11 @@ fn add_record(
     record: &Record,
     made: &mut Vec<Added>,
 ) -> Result<(), RefusalKind>
-    ensures { OnOk result (made.new.items ≡ made.old.items
+    ensures made { OnOk result (made.new.items ≡ made.old.items
         ++ adding.added_by state.now.records (around_in index.now)
         (get_by_text firsts.now.numbers) number (Some «record».now)) }
+    ensures refused { IfErr result (λ e. Fails e (AdditionFits state.now.records (around_in index.now)
+        (get_by_text firsts.now.numbers) number (Some «record».now))) }
 {
     match record {
         Record::Event(event) => add_event(alloc, state, number, event, made),

@@ -1,15 +1,16 @@
 //! The records of the plain archive, kind by kind.
 
-ghost use Rattle.std.specs.Prelude.{◌≡◌, IfOk, Some};
+ghost use Rattle.std.specs.Prelude.{◌≡◌, IfErr, IfOk, Some};
 ghost use Rattle.stored_lines.specs.Line.{Lines};
 ghost use Rattle.record_kinds.specs.declared.record.Record.TheVariants as kind;
 ghost use Rattle.record_shapes.specs.Shapes.{Around};
 ghost use Rattle.gedcom_export.specs.Shown.{around_in};
+ghost use Rattle.plain_export.specs.Fitting.{Fails, Fits, LinesFit};
 ghost use Rattle.plain_export.specs.Plain as plain;
 
 use crate::allowed::{pair, put_value, value_after};
 use crate::kept::{is_ours, kept_lines, names_left_out};
-use crate::lines::{line, put_line};
+use crate::lines::{line, put_line, text_of};
 use crate::one_line::{maybe_one_line, words_in_line};
 use crate::pages::{put_page, short_page};
 use crate::parts::{kept_parts, plain_names};
@@ -140,7 +141,7 @@ pub(crate) fn plain_citation(
     alloc: Global,
     state: &State,
     citation: &Citation,
-) -> Result<Citation, RefusalKind>
+) -> Result<Citation, AllocError>
     ensures { IfOk result (λ c. c ≡ plain.plain_citation state.now.records citation.now) }
 {
     let mut carried = Vec::new(alloc);
@@ -162,13 +163,13 @@ fn place_line(
     index: &Index,
     place: &EventPlace,
 ) -> Result<Carried, RefusalKind>
-    ensures { IfOk result (λ c. c ≡ plain.place_line state.now.records (around_in index.now) place.now) }
+    ensures made { IfOk result (λ c. c ≡ plain.place_line state.now.records (around_in index.now) place.now) }
+    ensures refused { IfErr result
+        (λ e. Fails e (Fits (plain.place_line state.now.records (around_in index.now) place.now))) }
 {
     let path = index.path(alloc, place.place)?;
     let path = words_in_line(alloc, path.as_str())?;
-    let Some(text) = Text::try_new(path) else {
-        return Err(RefusalKind::ExportTooLarge);
-    };
+    let text = text_of(path)?;
     let below = kept_lines(alloc, state, &place.carried)?;
     line(alloc, "PLAC", Value::Text(text), below)
 }
@@ -180,8 +181,10 @@ fn place_lines(
     index: &Index,
     place: &Option<EventPlace>,
 ) -> Result<Vec<Carried>, RefusalKind>
-    ensures { IfOk result (λ made. made.items
+    ensures made { IfOk result (λ made. made.items
         ≡ plain.place_lines state.now.records (around_in index.now) place.now) }
+    ensures refused { IfErr result
+        (λ e. Fails e (LinesFit (plain.place_lines state.now.records (around_in index.now) place.now))) }
 {
     let mut made = Vec::new(alloc);
     if let Some(place) = place {
@@ -198,8 +201,10 @@ fn event_lines(
     mut more: Vec<Carried>,
     event: &Event,
 ) -> Result<Vec<Carried>, RefusalKind>
-    ensures { IfOk result (λ made. made.items
+    ensures made { IfOk result (λ made. made.items
         ≡ plain.event_lines state.now.records (around_in index.now) more.items event.now) }
+    ensures refused { IfErr result (λ e. Fails e
+        (LinesFit (plain.place_lines state.now.records (around_in index.now) event.now.place))) }
 {
     let mut made = place_lines(alloc, state, index, &event.place)?;
     put_value(alloc, event.tag.as_str(), &event.value, &mut made)?;
@@ -217,8 +222,10 @@ pub(crate) fn plain_event(
     more: Vec<Carried>,
     event: &Event,
 ) -> Result<Event, RefusalKind>
-    ensures { IfOk result (λ e. e
+    ensures made { IfOk result (λ e. e
         ≡ plain.plain_event state.now.records (around_in index.now) more.items event.now) }
+    ensures refused { IfErr result (λ e. Fails e
+        (LinesFit (plain.place_lines state.now.records (around_in index.now) event.now.place))) }
 {
     Ok(Event {
         owner: event.owner,

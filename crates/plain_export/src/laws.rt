@@ -1,18 +1,22 @@
 //! What the plain archive of an archive has.
 
-ghost use Rattle.std.specs.Prelude.{◌≡◌, ◌⊎◌, ℕ, List, [], Some, None, codes, false, map};
+ghost use Rattle.std.specs.Prelude.{◌≡◌, ◌⊎◌, ◌∷◌, ℕ, List, [], Some, None, codes, false, map};
 ghost use Rattle.std.specs.FinMap.{get};
 ghost use Rattle.record_kinds.specs.Model as model;
 ghost use Rattle.record_kinds.specs.declared.record.Record.TheVariants as kind;
-ghost use Rattle.record_shapes.specs.Shapes.{Around, text_line};
+ghost use Rattle.record_fields.specs.declared.date.Date.{Date};
+ghost use Rattle.record_shapes.specs.Shapes.{Around, line, text_line};
 ghost use Rattle.stored_lines.specs.Line.{Lines};
+ghost use Rattle.stored_lines.specs.declared.carried.Value.TheVariants as value;
 ghost use Rattle.archive_state.specs.Content.{Records};
 ghost use Rattle.gedcom_export.specs.Around.{around};
 ghost use Rattle.plain_export.specs.Added as adding;
-ghost use Rattle.plain_export.specs.Allowed.{is_blank, one_line};
+ghost use Rattle.plain_export.specs.Allowed.{is_blank, one_line, page_line};
 ghost use Rattle.plain_export.specs.Firsts.{cited_by, firsts};
 ghost use Rattle.plain_export.specs.Kept.{kept};
 ghost use Rattle.plain_export.specs.Plain as plain;
+ghost use Rattle.plain_export.specs.Words.{page_words};
+ghost use Rattle.plain_export.specs.declared.noted.Noted.{Noted};
 
 /// An archive has a plain archive, and only one.
 pub fn an_archive_has_one_plain_archive()
@@ -76,6 +80,16 @@ pub fn the_value_of_an_event_stands_or_is_noted()
         ⊎ plain.IsAmong (text_line (codes "NOTE") e.value) (plain.plain_event m a more e).carried }
 {}
 
+/// An event keeps its date, and its place stands below it: the path on one line, with the carried lines that stay.
+pub fn the_date_and_the_place_of_an_event_stand()
+    ensures date { (m : Records) (a : Around) (more : Lines) (e : model.Event)
+        → (plain.plain_event m a more e).date ≡ e.date }
+    ensures place { (m : Records) (a : Around) (more : Lines) (e : model.Event) (p : model.EventPlace)
+        → e.place ≡ Some p
+        → plain.IsAmong (line (codes "PLAC") (value.Text (one_line (a.path p.place))) (kept m p.carried))
+        (plain.plain_event m a more e).carried }
+{}
+
 /// No page of a citation is lost: it stands on one line, or is a note of the citation.
 pub fn the_page_of_a_citation_stands_or_is_noted()
     ensures { (m : Records) (c : model.Citation) (page : List ℕ) → c.page ≡ Some page
@@ -94,4 +108,16 @@ pub fn the_entry_of_a_linked_mention_is_cited()
         → plain.IsAmong x e.mentions → x.link ≡ Some l
         → plain.IsAmong (adding.note_line (adding.noted_of (firsts m) e x))
         (adding.below_citation e (adding.noted (firsts m) e) (cited_by (firsts m) e.date x.role l)) }
+{}
+
+/// The citation of an entry has its page and item, and its date and its text below a line `DATA`.
+pub fn the_citation_of_an_entry_has_its_page_date_and_text()
+    ensures page { (e : model.Entry) (xs : List Noted) (n : ℕ)
+        → plain.IsAmong (page_line (page_words e)) (adding.below_citation e xs n) }
+    ensures date { (e : model.Entry) (xs : List Noted) (n : ℕ) (d : Date) → e.date ≡ Some d
+        → plain.IsAmong (line (codes "DATA") (value.Text []) (adding.below_data e)) (adding.below_citation e xs n)
+        × plain.IsAmong (text_line (codes "DATE") d.text) (adding.below_data e) }
+    ensures text { (e : model.Entry) (xs : List Noted) (n : ℕ) (b : ℕ) (bs : List ℕ) → e.text ≡ b ∷ bs
+        → plain.IsAmong (line (codes "DATA") (value.Text []) (adding.below_data e)) (adding.below_citation e xs n)
+        × plain.IsAmong (text_line (codes "TEXT") e.text) (adding.below_data e) }
 {}

@@ -1,11 +1,13 @@
 //! Lines made of words.
 
-ghost use Rattle.std.specs.Prelude.{◌≡◌, ◌≤◌, ◌↔◌, ◌++◌, ◌∷◌, [], IfOk, IsTrue, OnOk, string_bytes};
+ghost use Rattle.std.specs.Prelude.{◌≡◌, ◌≤◌, ◌↔◌, ◌++◌, ◌∷◌, [], IfErr, IfOk, IsTrue, OnOk, string_bytes};
 ghost use Rattle.stored_lines.specs.Levels.{levels as levels_of, forest_levels};
 ghost use Rattle.stored_lines.specs.Tree.{forest_of};
 ghost use Rattle.record_shapes.specs.Shapes as shapes;
 ghost use Rattle.record_text.specs.Text.{IsTag};
+ghost use Rattle.record_text.specs.Text.{IsText};
 ghost use Rattle.plain_export.specs.Allowed.{said_lines};
+ghost use Rattle.plain_export.specs.Fitting.{Fails, Fits};
 
 use record_text::{RefusalKind, Tag, Text};
 use std::alloc::{AllocError, Global};
@@ -16,7 +18,8 @@ const MAX_BELOW: u32 = 98;
 
 /// Words as a text. Refused with 70 where they are too long for one.
 pub(crate) fn text_of(words: String) -> Result<Text, RefusalKind>
-    ensures { IfOk result (λ t. t ≡ string_bytes words) }
+    ensures made { IfOk result (λ t. t ≡ string_bytes words) }
+    ensures refused { IfErr result (λ e. Fails e (IsText (string_bytes words))) }
 {
     match Text::try_new(words) {
         Some(text) => Ok(text),
@@ -24,13 +27,26 @@ pub(crate) fn text_of(words: String) -> Result<Text, RefusalKind>
     }
 }
 
-/// A line with a text.
+/// A line with words.
 pub(crate) fn words_line(alloc: Global, tag: &str, words: String) -> Result<Carried, RefusalKind>
     requires { IsTag tag.now }
-    ensures { IfOk result (λ c. c ≡ shapes.text_line tag.now (string_bytes words)) }
+    ensures made { IfOk result (λ c. c ≡ shapes.text_line tag.now (string_bytes words)) }
+    ensures refused { IfErr result (λ e. Fails e (Fits (shapes.text_line tag.now (string_bytes words)))) }
 {
     let text = text_of(words)?;
-    line(alloc, tag, Value::Text(text), Vec::new(alloc))
+    Ok(text_line(alloc, tag, text)?)
+}
+
+/// A line with a text.
+pub(crate) fn text_line(alloc: Global, tag: &str, text: Text) -> Result<Carried, AllocError>
+    requires { IsTag tag.now }
+    ensures { IfOk result (λ c. c ≡ shapes.text_line tag.now text) }
+{
+    Ok(Carried {
+        tag: Tag::of_word(alloc, tag)?,
+        value: Value::Text(text),
+        children: Vec::new(alloc),
+    })
 }
 
 /// Puts a line last.
@@ -47,16 +63,14 @@ pub(crate) fn put_text(
     tag: &str,
     text: &Text,
     lines: &mut Vec<Carried>,
-) -> Result<(), RefusalKind>
+) -> Result<(), AllocError>
     requires { IsTag tag.now }
     ensures { OnOk result (lines.new.items ≡ lines.old.items ++ said_lines tag.now text.now) }
 {
     if text.as_str().is_empty() {
         return Ok(());
     }
-    let words = String::from_str(alloc, text.as_str())?;
-    put_line(lines, words_line(alloc, tag, words)?)?;
-    Ok(())
+    put_line(lines, text_line(alloc, tag, text.copy(alloc)?)?)
 }
 
 /// A line with those below it. Refused with 70 where these have more levels than a file.
@@ -67,7 +81,8 @@ pub(crate) fn line(
     below: Vec<Carried>,
 ) -> Result<Carried, RefusalKind>
     requires { IsTag tag.now }
-    ensures { IfOk result (λ c. c ≡ shapes.line tag.now value below.items) }
+    ensures made { IfOk result (λ c. c ≡ shapes.line tag.now value below.items) }
+    ensures refused { IfErr result (λ e. Fails e (forest_levels (forest_of below.items) ≤ 98)) }
 {
     if !are_within(&below, MAX_BELOW) {
         return Err(RefusalKind::ExportTooLarge);

@@ -1,11 +1,12 @@
 //! The plain archive, made of an archive.
 
-ghost use Rattle.std.specs.Prelude.{◌≡◌, IfOk, OnOk, Some};
-ghost use Rattle.std.specs.FinMap as map;
+ghost use Rattle.std.specs.Prelude.{◌≡◌, IfErr, IfOk, OnOk, Some};
+ghost use Rattle.std.specs.FinMap.{get};
 ghost use Rattle.std.specs.List.Sorted.{IsNonDecreasingBy};
 ghost use Rattle.gedcom_export.specs.Owned.{IsArrangedBy};
 ghost use Rattle.gedcom_export.specs.Shown.{around_in};
 ghost use Rattle.plain_export.specs.Added as adding;
+ghost use Rattle.plain_export.specs.Fitting.{Fails, IsFit, PlaceFits, PlacesFit};
 ghost use Rattle.plain_export.specs.Made as making;
 ghost use Rattle.plain_export.specs.Plain as plain;
 ghost use Rattle.plain_export.specs.declared.added.Added as declared;
@@ -19,12 +20,13 @@ use archive_state::State;
 use gedcom_export::{Index, index_of};
 use record_kinds::Record;
 use record_text::RefusalKind;
-use std::alloc::Global;
+use std::alloc::{AllocError, Global};
 use stored_lines::Carried;
 
 /// The plain archive of the records of a state. Refused with 70 where a text or a line of it is too long for one.
 pub(crate) fn plain_state(alloc: Global, state: &State) -> Result<State, RefusalKind>
-    ensures { IfOk result (λ made. plain.IsPlain state.now.records made.records) }
+    ensures made { IfOk result (λ made. plain.IsPlain state.now.records made.records) }
+    ensures refused { IfErr result (λ e. Fails e (IsFit state.now.records)) }
 {
     let index = index_of(alloc, state)?;
     let added = arranged(alloc, state, &index)?;
@@ -40,7 +42,8 @@ fn plain_records(
     added: &[Added],
 ) -> Result<State, RefusalKind>
     requires { IsNonDecreasingBy (λ (x : declared.Added). x.number) added.now }
-    ensures { IfOk result (λ made. making.AreMade state.now.records (around_in index.now) added.now made.records) }
+    ensures made { IfOk result (λ made. making.AreMade state.now.records (around_in index.now) added.now made.records) }
+    ensures refused { IfErr result (λ e. Fails e (PlacesFit state.now.records (around_in index.now))) }
 {
     let numbers = state.record_numbers(alloc)?;
     let mut plain = State::new(alloc);
@@ -60,8 +63,10 @@ fn put_plain(
     plain: &mut State,
 ) -> Result<(), RefusalKind>
     requires { IsNonDecreasingBy (λ (x : declared.Added). x.number) added.now }
-    ensures { OnOk result (plain.new.records ≡ making.put_if plain.old.records number
+    ensures made { OnOk result (plain.new.records ≡ making.put_if plain.old.records number
         (making.made_at state.now.records (around_in index.now) added.now number)) }
+    ensures refused { IfErr result (λ e. Fails e
+        (PlaceFits state.now.records (around_in index.now) (get state.now.records number))) }
 {
     let Some(found) = state.record(number) else {
         return Ok(());
@@ -69,12 +74,12 @@ fn put_plain(
     let more = lines_of(alloc, added, number)?;
     match record_at(alloc, state, index, more, found)? {
         None => Ok(()),
-        Some(record) => put(number, record, plain),
+        Some(record) => Ok(put(number, record, plain)?),
     }
 }
 
 /// Puts a record at a number.
-fn put(number: u32, record: Record, plain: &mut State) -> Result<(), RefusalKind>
+fn put(number: u32, record: Record, plain: &mut State) -> Result<(), AllocError>
     ensures { OnOk result (plain.new.records ≡ making.put_if plain.old.records number (Some «record»)) }
 {
     let _ = plain.put_record(number, record)?;
@@ -89,8 +94,10 @@ fn record_at(
     more: Vec<Carried>,
     found: &Record,
 ) -> Result<Option<Record>, RefusalKind>
-    ensures { IfOk result (λ o. o
+    ensures made { IfOk result (λ o. o
         ≡ plain.plain_at state.now.records (around_in index.now) more.items (Some found.now)) }
+    ensures refused { IfErr result (λ e. Fails e
+        (PlaceFits state.now.records (around_in index.now) (Some found.now))) }
 {
     match found {
         Record::Place(_) => Ok(None),

@@ -1,19 +1,22 @@
 //! Mentions in words, and what cites their entry.
 
-ghost use Rattle.std.specs.Prelude.{◌≡◌, ◌==◌, ◌++◌, ◌∷◌, [], IfOk, OnOk, option_map};
+ghost use Rattle.std.specs.Prelude.{◌≡◌, ◌==◌, ◌++◌, ◌∷◌, [], IfErr, IfOk, OnOk, map, option_map};
 ghost use Rattle.std.specs.BTreeMap.{get_by_text};
 ghost use Rattle.std.specs.List.{list_any};
 ghost use Rattle.plain_export.specs.Added as adding;
+ghost use Rattle.record_text.specs.Text.{IsText};
 ghost use Rattle.plain_export.specs.Firsts as marking;
+ghost use Rattle.plain_export.specs.Fitting.{AreTexts, Fails};
+ghost use Rattle.plain_export.specs.Words as words;
 
 use crate::firsts::{Firsts, cited_by};
-use crate::lines::{line, text_of};
+use crate::lines::{text_line, text_of};
 use crate::words::mention_words;
 use record_fields::{Date, Role};
 use record_kinds::{Entry, Link, Mention};
 use record_text::{RefusalKind, Text};
 use std::alloc::{AllocError, Global};
-use stored_lines::{Carried, Value};
+use stored_lines::Carried;
 
 /// A mention in words.
 pub struct Noted {
@@ -52,8 +55,9 @@ fn noted_of(
     entry: &Entry,
     mention: &Mention,
 ) -> Result<Noted, RefusalKind>
-    ensures { IfOk result (λ x. x
+    ensures made { IfOk result (λ x. x
         ≡ adding.noted_of (get_by_text firsts.now.numbers) entry.now mention.now) }
+    ensures refused { IfErr result (λ e. Fails e (IsText (words.mention_words mention.now))) }
 {
     let at = place_of(alloc, firsts, &entry.date, mention.role, &mention.link)?;
     let words = text_of(mention_words(alloc, mention)?)?;
@@ -74,7 +78,8 @@ pub(crate) fn noted_all(
     firsts: &Firsts,
     entry: &Entry,
 ) -> Result<Vec<Noted>, RefusalKind>
-    ensures { IfOk result (λ made. made.items ≡ adding.noted (get_by_text firsts.now.numbers) entry.now) }
+    ensures made { IfOk result (λ made. made.items ≡ adding.noted (get_by_text firsts.now.numbers) entry.now) }
+    ensures refused { IfErr result (λ e. Fails e (AreTexts (map words.mention_words entry.now.mentions))) }
 {
     let mut made = Vec::new(alloc);
     'mentions: for mention in &entry.mentions {
@@ -131,9 +136,8 @@ pub(crate) fn is_of(at: Option<u32>, number: u32) -> bool
 }
 
 /// The note of a mention.
-pub(crate) fn note_line(alloc: Global, noted: &Noted) -> Result<Carried, RefusalKind>
+pub(crate) fn note_line(alloc: Global, noted: &Noted) -> Result<Carried, AllocError>
     ensures { IfOk result (λ c. c ≡ adding.note_line noted.now) }
 {
-    let words = Value::Text(noted.words.copy(alloc)?);
-    line(alloc, "NOTE", words, Vec::new(alloc))
+    text_line(alloc, "NOTE", noted.words.copy(alloc)?)
 }

@@ -1,9 +1,10 @@
 //! Pages of citations.
 
-ghost use Rattle.std.specs.Prelude.{◌≡◌, ◌++◌, IfOk, OnOk, Some, string_bytes};
+ghost use Rattle.std.specs.Prelude.{◌≡◌, ◌++◌, IfErr, IfOk, OnOk, Some, string_bytes};
 ghost use Rattle.plain_export.specs.Allowed as allowed;
+ghost use Rattle.plain_export.specs.Fitting.{Fails, Fits};
 
-use crate::lines::{put_line, words_line};
+use crate::lines::{put_line, text_line, words_line};
 use crate::one_line::{one_line, words_in_line};
 use record_text::{RefusalKind, Text};
 use std::alloc::{AllocError, Global};
@@ -21,7 +22,8 @@ fn is_long(text: &str) -> bool
 
 /// The line of a page, or the note that a long one is.
 pub(crate) fn page_line(alloc: Global, words: String) -> Result<Carried, RefusalKind>
-    ensures { IfOk result (λ c. c ≡ allowed.page_line (string_bytes words)) }
+    ensures made { IfOk result (λ c. c ≡ allowed.page_line (string_bytes words)) }
+    ensures refused { IfErr result (λ e. Fails e (Fits (allowed.page_line (string_bytes words)))) }
 {
     if is_long(words.as_str()) {
         return words_line(alloc, "NOTE", words);
@@ -55,7 +57,7 @@ pub(crate) fn put_page(
     alloc: Global,
     page: &Option<Text>,
     lines: &mut Vec<Carried>,
-) -> Result<(), RefusalKind>
+) -> Result<(), AllocError>
     ensures { OnOk result (lines.new.items ≡ lines.old.items ++ allowed.page_note page.now) }
 {
     match page {
@@ -64,12 +66,11 @@ pub(crate) fn put_page(
     }
 }
 
-fn put_long(alloc: Global, text: &Text, lines: &mut Vec<Carried>) -> Result<(), RefusalKind>
+fn put_long(alloc: Global, text: &Text, lines: &mut Vec<Carried>) -> Result<(), AllocError>
     ensures { OnOk result (lines.new.items ≡ lines.old.items ++ allowed.page_note (Some text.now)) }
 {
     if is_long(text.as_str()) {
-        let words = String::from_str(alloc, text.as_str())?;
-        put_line(lines, words_line(alloc, "NOTE", words)?)?;
+        put_line(lines, text_line(alloc, "NOTE", text.copy(alloc)?)?)?;
     }
     Ok(())
 }

@@ -1,13 +1,14 @@
 //! The plain export.
 
 ghost use Rattle.std.specs.Prelude.{◌≡◌, ◌⊎◌, IfErr, MatchResult, None, false};
-ghost use Rattle.devices.specs.Devices.{AppendsBeginning, Rose};
+ghost use Rattle.devices.specs.Devices.{Rose};
 ghost use Rattle.gedcom_tree.specs.Text.{text};
 ghost use Rattle.record_text.specs.declared.refusal.RefusalKind.TheVariants.{ExportTooLarge, OutOfMemory, WriteFailed};
 ghost use Rattle.archive_state.specs.Content.{Records};
 ghost use Rattle.archive_state.specs.Looks.{is_failure};
 ghost use Rattle.gedcom_export.specs.Forest.{exported};
 ghost use Rattle.gedcom_export.specs.Ends.{IsWhole};
+ghost use Rattle.plain_export.specs.Fitting.{IsPlainBegun};
 ghost use Rattle.plain_export.specs.Plain.{IsPlain};
 
 use crate::making::plain_state;
@@ -30,7 +31,8 @@ pub fn export_plain<W: Write + Device>(
 ) -> Result<(), Refusal>
     ensures written { (plain : Records) → IsPlain state.now.records plain → MatchResult result
         (λ _. IsWhole (W.contents writer.old) (W.contents writer.new) (text (exported plain society.now)))
-        (λ e. AppendsBeginning (W.contents writer.old) (W.contents writer.new) (text (exported plain society.now))) }
+        (λ e. IsPlainBegun (W.contents writer.old) (W.contents writer.new) state.now.records
+        (text (exported plain society.now)) e.kind) }
     ensures writer { IfErr result (λ e. e.kind ≡ WriteFailed → Rose (W.failed writer.old) (W.failed writer.new)) }
     ensures own { IfErr result (λ e. is_failure e.kind ≡ false) }
     ensures nowhere { IfErr result (λ e. e.at ≡ None) }
@@ -44,9 +46,9 @@ pub fn export_plain<W: Write + Device>(
     }
 }
 
-/// Why a plain archive was not made: memory was refused, or something in it is too long.
+/// Why a plain archive was not made: memory was refused, or otherwise something in it is too long.
 fn reason_of(kind: RefusalKind) -> RefusalKind
-    ensures { (result ≡ OutOfMemory) ⊎ (result ≡ ExportTooLarge) }
+    ensures { ((kind ≡ OutOfMemory) × (result ≡ OutOfMemory)) ⊎ ((¬ (kind ≡ OutOfMemory)) × (result ≡ ExportTooLarge)) }
 {
     match kind {
         RefusalKind::OutOfMemory => RefusalKind::OutOfMemory,

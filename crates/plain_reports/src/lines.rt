@@ -15,32 +15,43 @@ pub fn left_out_text(alloc: Global, state: &State) -> Result<String, AllocError>
     push_kind(
         &mut out,
         places_with_lines(alloc, state)?,
+        "place with lines of its own",
         "places with lines of their own",
     )?;
     push_kind(
         &mut out,
         unnamed_places(alloc, state)?,
+        "place that nothing names",
         "places that nothing names",
     )?;
     push_kind(
         &mut out,
         our_own_records(alloc, state)?,
+        "record with a tag of our own",
         "records with a tag of our own",
     )?;
     push_kind(
         &mut out,
         second_sexes(alloc, state)?,
+        "second sex of a person",
         "second sexes of persons",
     )?;
     Ok(out)
 }
 
-/// Appends how many are left out of a kind.
-fn push_kind(out: &mut String, left_out: Vec<u32>, what: &str) -> Result<(), AllocError>
-    ensures { OnOk result
-        (string_bytes out.new ≡ string_bytes out.old ++ texts.left_line (length left_out.items) what.now) }
+/// Appends how many are left out of a kind, in the words for one of it or for several.
+fn push_kind(
+    out: &mut String,
+    left_out: Vec<u32>,
+    one: &str,
+    several: &str,
+) -> Result<(), AllocError>
+    ensures { OnOk result (string_bytes out.new
+        ≡ string_bytes out.old ++ texts.kind_line (length left_out.items) one.now several.now) }
 {
-    push_line(out, left_out.len(), what)
+    let count = left_out.len();
+    let what = words_for(count, one, several);
+    push_line(out, count, what)
 }
 
 /// Appends a number of what is left out, if it is not 0.
@@ -51,4 +62,11 @@ fn push_line(out: &mut String, count: usize, what: &str) -> Result<(), AllocErro
         write!(out, "  left out: {count} {what}\n")?;
     }
     Ok(())
+}
+
+/// The words for one, or for another number.
+fn words_for<'a>(count: usize, one: &'a str, several: &'a str) -> &'a str
+    ensures { result.now ≡ texts.words_for count one.now several.now }
+{
+    if count == 1 { one } else { several }
 }
