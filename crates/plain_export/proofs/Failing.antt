@@ -12,7 +12,6 @@ use Rattle.std.proofs.Common.{
   ◌∷◌,
   Bool,
   true,
-  false,
   ap,
   length,
   get_or,
@@ -131,11 +130,6 @@ note_fits a e xs (n ∷ ns) empty h = absurd (omega arith)
 -- ---- pages
 pub long_fits : (text : List ℕ) → is_long text ≡ true → Fits (page_line text) → Fits (text_line (codes "NOTE") text)
 long_fits text is h = subst (λ (b : Bool).
-    Fits (if b then text_line (codes "NOTE") text else text_line (codes "PAGE") (one_line text))) is h
-
-pub short_fits : (text : List ℕ) → is_long text ≡ false → Fits (page_line text)
-    → Fits (text_line (codes "PAGE") (one_line text))
-short_fits text is h = subst (λ (b : Bool).
     Fits (if b then text_line (codes "NOTE") text else text_line (codes "PAGE") (one_line text))) is h
 
 -- ---- the export

@@ -14,7 +14,6 @@ use Rattle.std.proofs.Common.{
   refl,
   sym,
   ap,
-  subst,
   inl,
   inr,
   ◌∙◌,
@@ -24,8 +23,8 @@ use Rattle.std.specs.FinMap.{get, keys}
 use Rattle.std.specs.List.{filter, list_all, list_any}
 use Rattle.std.proofs.lemmas.Bool.{or_parts}
 use Rattle.std.proofs.lemmas.List.Folds.{list_all-append}
-use Rattle.stored_lines.specs.Tree.{Tree, node, forest_of, list_of, more}
-use Rattle.stored_lines.specs.Line.{Line, Lines}
+use Rattle.stored_lines.specs.Tree.{node, forest_of, list_of, more}
+use Rattle.stored_lines.specs.Line.{Lines}
 use Rattle.record_fields.specs.declared.words.Sex.{Sex}
 use Rattle.record_kinds.specs.Model as model
 use Rattle.record_kinds.specs.declared.record.Record.{Record}

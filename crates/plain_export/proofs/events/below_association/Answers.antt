@@ -3,7 +3,7 @@ use Rattle.std.specs.Prelude.{codes, string_bytes}
 use Rattle.record_shapes.specs.Shapes.{text_line}
 use Rattle.plain_export.specs.Allowed.{one_line}
 use Rattle.plain_export.specs.Fitting.{Fits}
-use Rattle.plain_export.specs.Words.{event_words, relation_words}
+use Rattle.plain_export.specs.Words.{relation_words}
 use Rattle.plain_export.proofs.Failing.{weaker}
 use Rattle.plain_export.proofs.events.below_association.Goals as goal
 

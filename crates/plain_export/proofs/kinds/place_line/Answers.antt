@@ -1,4 +1,4 @@
-use Rattle.std.proofs.Common.{◌≡◌, ◌∙◌, ◌≤◌, Err, List, ℕ, ap, rules, subst, sym}
+use Rattle.std.proofs.Common.{◌≡◌, ◌∙◌, ◌≤◌, Err, ap, rules, subst, sym}
 use Rattle.std.specs.Prelude.{string_bytes}
 use Rattle.stored_lines.specs.Line.{Lines}
 use Rattle.stored_lines.specs.Levels.{forest_levels}

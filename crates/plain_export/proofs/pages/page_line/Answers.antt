@@ -1,5 +1,4 @@
-use Rattle.std.proofs.Common.{◌≡◌, ◌∙◌, ap, false, subst, sym, true}
-use Rattle.plain_export.proofs.Failing.{fails_by, long_fits, short_fits}
+use Rattle.plain_export.proofs.Failing.{fails_by, long_fits}
 use Rattle.plain_export.proofs.pages.page_line.Goals as goal
 
 pub returns-then-is_long-clause-refused : goal.returns-then-is_long-clause-refused
