@@ -8,7 +8,8 @@ pub returns-in_err-note-clause-refused : goal.returns-in_err-note-clause-refused
 returns-in_err-note-clause-refused c =
     let empty : length c.args.numbers.now ≡ 0 = grind (arith, common_steps) in
     let same : c.from_residual.result ≡ Err c.in_err-note.field-0.0 = search rules in
-    rw same (weaker _ (note_fits (around_in c.args.index.now) c.args.entry.now c.args.noted.now c.args.numbers.now empty)
+    rw same (weaker _
+    (note_fits (around_in c.args.index.now) c.args.entry.now c.args.noted.now c.args.numbers.now empty)
     c.in_err-note.ensures.refused)
 
 pub returns-clause-refused : goal.returns-clause-refused
