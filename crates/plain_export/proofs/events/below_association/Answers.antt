@@ -10,7 +10,7 @@ use Rattle.plain_export.proofs.events.below_association.Goals as goal
 pub returns-in_err-words_line-clause-refused : goal.returns-in_err-words_line-clause-refused
 returns-in_err-words_line-clause-refused c =
     let role : string_bytes c.in_ok-relation-2.relation
-        ≡ one_line (relation_words c.args.participant.now.role) = search rules in
+    ≡ one_line (relation_words c.args.participant.now.role) = search rules in
     let same : c.from_residual-in_err-words_line.result ≡ Err c.in_err-words_line.field-0.0 = search rules in
     rw same (weaker _ (λ whole. subst (λ (t : List ℕ). Fits (text_line (codes "RELA") t)) (sym role) whole.0)
     c.in_err-words_line.ensures.refused)
