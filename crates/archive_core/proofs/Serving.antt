@@ -30,11 +30,10 @@ use Rattle.archive_state.specs.Content.{Content, Receipts}
 use Rattle.archive_state.specs.Sound.{IsSound}
 use Rattle.receipts.specs.declared.answer.Answer.{Answer}
 use Rattle.receipts.specs.declared.answer.Receipt.{Receipt}
-use Rattle.commands.specs.Bytes.{digest_of}
 use Rattle.commands.specs.declared.command.Command.{Command}
 use Rattle.archive_core.specs.Steps.{Step, refused_at, step}
 use Rattle.command_checks.specs.Numbers.{Draws, UsesNoneAgain}
-use Rattle.archive_core.specs.Machine.{Does, Runs, Done, served, kept_under, answered_again}
+use Rattle.archive_core.specs.Machine.{Does, Runs, Done, served, kept_under, answered_again, request_digest}
 use Rattle.archive_core.specs.Words.{HasUtf8Words}
 use Rattle.archive_core.specs.declared.request.Request.{Request}
 use Rattle.record_shapes.specs.Lists.{EachOf}
@@ -103,11 +102,11 @@ stays c after digest x a e =
 again : (c after : Content) (r : Request) (a : Answer) (o : Option Receipt) → get c.receipts r.token ≡ o
     → served c r o ≡ Ok (after, a) → served after r (get after.receipts r.token) ≡ Ok (after, a)
 again c after r a None is e =
-    ap (served after r) (kept_again (step c r.command) r.token (digest_of r.command) after a e)
-    ∙ same_again after (digest_of r.command) a
+    ap (served after r) (kept_again (step c r.command) r.token (request_digest r) after a e)
+    ∙ same_again after (request_digest r) a
 again c after r a (Some x) is e =
     subst (λ (z : Content). served z r (get z.receipts r.token) ≡ Ok (after, a))
-    (stays c after (digest_of r.command) x a e) (ap (served c r) is ∙ e)
+    (stays c after (request_digest r) x a e) (ap (served c r) is ∙ e)
 
 -- an accepted request is answered as before, and leaves what it left
 pub repeated : (c after : Content) (r : Request) (a : Answer) → Does c r (Ok a) after → Does after r (Ok a) after
@@ -125,11 +124,11 @@ still_there c token other x v none some =
     ] refl
 
 keeps_on : (W : Type 0) (c after : Content) (r : Request) (a : Answer) (other : List ℕ) (x : Receipt) (s : Step)
-    → Follows W c s → kept_under r.token (digest_of r.command) s ≡ Ok (after, a) → get c.receipts r.token ≡ None
+    → Follows W c s → kept_under r.token (request_digest r) s ≡ Ok (after, a) → get c.receipts r.token ≡ None
     → get c.receipts other ≡ Some x → get after.receipts other ≡ Some x
 keeps_on W c after r a other x (Ok done) f e none some =
-    let same : (left_by r.token (digest_of r.command) done, done.1) ≡ (after, a) = ok_is _ _ _ refl e in
-    let v : Receipt = record { digest = digest_of r.command; answer = done.1 } in
+    let same : (left_by r.token (request_digest r) done, done.1) ≡ (after, a) = ok_is _ _ _ refl e in
+    let v : Receipt = record { digest = request_digest r; answer = done.1 } in
     ap (λ (p : Content × Answer). get p.0.receipts other) (sym same) ∙ ap (λ m. get (insert m r.token v) other) f.0
     ∙ still_there c r.token other x v none some
 keeps_on W c after r a other x (Err k) f e none some = absurd (err_is_not k (after, a) _ refl e)
@@ -140,7 +139,7 @@ kept_on : (c after : Content) (r : Request) (a : Answer) (o : Option Receipt) (o
 kept_on c after r a None other x is e some = keeps_on (HasUtf8Words r.command) c after r a other x (step c r.command)
     (step_follows c r.command) e is some
 kept_on c after r a (Some y) other x is e some = ap (λ (z : Content). get z.receipts other)
-    (sym (stays c after (digest_of r.command) y a e)) ∙ some
+    (sym (stays c after (request_digest r) y a e)) ∙ some
 
 -- what is kept under a token is kept for good
 pub kept_for_good : (c after : Content) (r : Request) (o : Result Answer Refusal) (other : List ℕ) (x : Receipt)
@@ -176,9 +175,9 @@ none_between c d e h k =
 -- what holds of what a step leaves, and does not look at receipts, holds of what a request leaves
 left : (P : Content → Type 0) → ((d : Content) (receipts : Receipts) → P d → P (record d { receipts = receipts }))
     → (c after : Content) (r : Request) (a : Answer) (s : Step) → ((done : Content × Answer) → s ≡ Ok done → P done.0)
-    → kept_under r.token (digest_of r.command) s ≡ Ok (after, a) → P after
+    → kept_under r.token (request_digest r) s ≡ Ok (after, a) → P after
 left P blind c after r a (Ok done) h e =
-    let same : (left_by r.token (digest_of r.command) done, done.1) ≡ (after, a) = ok_is _ _ _ refl e in
+    let same : (left_by r.token (request_digest r) done, done.1) ≡ (after, a) = ok_is _ _ _ refl e in
     subst P (ap (λ (p : Content × Answer). p.0) same) (blind done.0 _ (h done refl))
 left P blind c after r a (Err k) h e = absurd (err_is_not k (after, a) _ refl e)
 
@@ -190,7 +189,7 @@ through P blind c after r (Err k) here h e = subst P (sym e.0) here
 through P blind c after r (Ok a) here h e =
     elim (get c.receipts r.token) as (λ o. served c r o ≡ Ok (after, a) → P after) [
       | None ↦ λ f. left P blind c after r a (step c r.command) h f
-      | Some x ↦ λ f. subst P (stays c after (digest_of r.command) x a f) here
+      | Some x ↦ λ f. subst P (stays c after (request_digest r) x a f) here
     ] e
 
 -- a step leaves a sound archive sound, and uses no number again

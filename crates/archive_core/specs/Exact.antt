@@ -3,17 +3,17 @@ use Rattle.std.specs.Prelude.{◌≡◌, Some, MatchOption}
 use Rattle.std.specs.FinMap.{get}
 use Rattle.archive_state.specs.Changes.{Changes}
 use Rattle.archive_state.specs.Content.{Content}
-use Rattle.commands.specs.Bytes.{digest_of}
 use Rattle.command_checks.specs.Exact.{IsExact, ChangesNothing}
+use Rattle.archive_core.specs.Machine.{request_digest}
 use Rattle.archive_core.specs.declared.request.Request.{Request}
 
 -- where an answer is kept under the token nothing changes; else the answer is kept under it, with the digest of the
--- command
+-- request
 abbrev pub KeepsOnce : Content → Request → Changes → Type 0
 KeepsOnce c r changes = MatchOption (get c.receipts r.token)
     (changes.kept ≡ Some (record {
       token = r.token;
-      receipt = record { digest = digest_of r.command; answer = changes.answer };
+      receipt = record { digest = request_digest r; answer = changes.answer };
     }))
     (λ receipt. ChangesNothing c changes)
 

@@ -1,5 +1,20 @@
 -- What a request does: an accepted one acts once, and its answer is kept under its token for good. Rules of our own.
-use Rattle.std.specs.Prelude.{ℕ, false, List, [], ◌∷◌, ◌≡◌, Option, Some, None, Result, Ok, Err, if◌then◌else◌}
+use Rattle.std.specs.Prelude.{
+  ℕ,
+  false,
+  List,
+  [],
+  ◌∷◌,
+  ◌≡◌,
+  Option,
+  Some,
+  None,
+  Result,
+  Ok,
+  Err,
+  unwrap_or,
+  if◌then◌else◌,
+}
 use Rattle.std.specs.Str.{bytes_eq}
 use Rattle.std.specs.FinMap.{get, insert}
 use Rattle.record_text.specs.declared.refusal.Refusal.{Refusal}
@@ -20,19 +35,23 @@ kept_under token digest (Ok done) =
     Ok (record done.0 { receipts = insert done.0.receipts token (record { digest = digest; answer = done.1 }) }, done.1)
 kept_under token digest (Err e) = Err e
 
--- the kept answer, where the command is the same
+-- the kept answer, where the digest is the same
 abbrev pub answered_again : Content → List ℕ → Receipt → Step
 answered_again c digest receipt =
     if bytes_eq receipt.digest digest then Ok (c, receipt.answer) else Err (refused_at None TokenReused)
 
 -- the request that imports a forest
 abbrev pub import_of : List ℕ → List Item → Request
-import_of token forest = record { token = token; command = command.Import forest }
+import_of token forest = record { token = token; command = command.Import forest; digest = None }
+
+-- the digest of a request: its own where it was asked in other words than its command's, else that of its command
+abbrev pub request_digest : Request → List ℕ
+request_digest r = unwrap_or r.digest (digest_of r.command)
 
 -- what a request leaves and is answered, by what is kept under its token
 abbrev pub served : Content → Request → Option Receipt → Step
-served c r None = kept_under r.token (digest_of r.command) (step c r.command)
-served c r (Some receipt) = answered_again c (digest_of r.command) receipt
+served c r None = kept_under r.token (request_digest r) (step c r.command)
+served c r (Some receipt) = answered_again c (request_digest r) receipt
 
 -- what a request leaves and is answered, or its refusal
 abbrev pub outcome : Content → Request → Step

@@ -6,7 +6,7 @@ ghost use Rattle.archive_state.specs.Looks.{CountsFailures, CountsStops, is_fail
 ghost use Rattle.archive_state.specs.Views.{On};
 ghost use Rattle.archive_core.specs.Applied.{Decides};
 ghost use Rattle.archive_core.specs.Exact.{IsExactFor};
-ghost use Rattle.archive_core.specs.Machine.{Does, answered_again, kept_under, outcome, served};
+ghost use Rattle.archive_core.specs.Machine.{Does, answered_again, kept_under, outcome, request_digest, served};
 ghost use Rattle.archive_core.specs.Steps.{step};
 ghost use Rattle.archive_core.specs.Words.{HasUtf8Words};
 ghost use Rattle.command_checks.specs.Exact.{ChangesNothing, IsExact};
@@ -22,7 +22,7 @@ use entry_batches::decide_entries;
 use imports::decide_import;
 use receipts::{Answer, Receipt, Token};
 use record_text::{Refusal, RefusalKind};
-use std::alloc::Global;
+use std::alloc::{AllocError, Global};
 
 /// Makes what a request changes in a state, and answers it. It is refused as by `decide`, of the stops only with
 /// `OutOfMemory`, and then the state is as it was.
@@ -43,7 +43,7 @@ fn decide_over(alloc: Global, state: &State, request: &Request) -> Result<Change
 }
 
 /// What a request changes, and its answer. A request whose token is kept is answered from what is kept, and refused
-/// where its command is another (`TokenReused`). Else the first check that fails gives the refusal: first the texts
+/// where its digest is another (`TokenReused`). Else the first check that fails gives the refusal: first the texts
 /// (`BadText`), then each number in the order of its field (`NoSuch`, `WrongKind`, and `BadText` for a place whose path
 /// has only empty parts), then what is the command's own (`SamePerson`, `AlreadyInFamily`, `NotOfKind`), and last
 /// whether a number is left (`Full`). Of a batch of register entries the source is looked at first, and then each row
@@ -59,14 +59,24 @@ pub fn decide<V: View>(alloc: Global, view: &mut V, request: &Request) -> Result
     ensures words { HasUtf8Words request.now.command }
 {
     tell_words(&request.command);
-    let digest = command_digest(alloc, &request.command)?;
+    let digest = request_digest(alloc, request)?;
     match view.receipt(alloc, &request.token)? {
         Some(receipt) => answer_again(alloc, view, &receipt, &digest),
         None => decide_anew(alloc, view, request, digest),
     }
 }
 
-/// The kept answer, where the command is the same.
+/// The digest of a request: its own, or that of its command.
+fn request_digest(alloc: Global, request: &Request) -> Result<[u8; 32], AllocError>
+    ensures { IfOk result (λ digest. digest ≡ request_digest request.now) }
+{
+    match request.digest {
+        Some(digest) => Ok(digest),
+        None => command_digest(alloc, &request.command),
+    }
+}
+
+/// The kept answer, where what was asked is the same.
 pub(crate) fn answer_again<V: View>(
     alloc: Global,
     view: &mut V,

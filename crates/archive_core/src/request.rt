@@ -13,6 +13,9 @@ use receipts::Token;
 pub struct Request {
     pub token: Token,
     pub command: Command,
+    /// The SHA-256 under which the answer is kept, where what was asked is not the command in its own words: the rows
+    /// of a page may name places by paths, of which the command has the numbers.
+    pub digest: Option<[u8; 32]>,
 }
 
 /// Does nothing: it tells a proof that the words of a command are UTF-8, and that the nodes of an import are a forest.

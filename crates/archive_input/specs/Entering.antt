@@ -1,5 +1,5 @@
 -- What entering rows as one batch does: they are register entries, and one request makes them all. Rules of our own.
-use Rattle.std.specs.Prelude.{◌≡◌, ℕ, List, Option, Ok}
+use Rattle.std.specs.Prelude.{◌≡◌, ℕ, List, Option, None, Ok}
 use Rattle.sqlite_trees.specs.declared.store.Store.{Ghosts}
 use Rattle.record_text.specs.declared.refusal.Refusal.{Refusal}
 use Rattle.record_text.specs.declared.refusal.RefusalKind.TheVariants.{ReadFailed}
@@ -13,7 +13,7 @@ use Rattle.archive_input.specs.Applying.{Steps}
 
 -- the request of a batch of register entries of a source
 abbrev pub batch_request : List ℕ → ℕ → List EntryRow → Request
-batch_request token source rows = record { token = token; command = command.Entries source rows }
+batch_request token source rows = record { token = token; command = command.Entries source rows; digest = None }
 
 -- the rows of an input are a batch, whose request was performed on the archive with this outcome
 abbrev pub Enters : {S : Type 0} → (g : Ghosts S) → List ℕ → ℕ → Option (List ℕ) → Archive S g → Outcome

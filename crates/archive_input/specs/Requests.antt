@@ -50,7 +50,7 @@ untold kind = Err (record { token = None; kind = kind })
 
 -- a command under its token
 abbrev pub under : List ℕ → Result RowCommand RefusalKind → Asked
-under token (Ok c) = Ok (record { token = token; command = command.Row c })
+under token (Ok c) = Ok (record { token = token; command = command.Row c; digest = None })
 under token (Err kind) = told token kind
 
 -- what is after the token: a verb with its fields; nothing is a wrong count

@@ -43,14 +43,16 @@ pub fn enter<S: Alter, R: Read + Device>(
             Request {
                 token,
                 command: Command::Entries { source, rows },
+                digest: None,
             },
         ),
         Err(why) => Err(why),
     }
 }
 
-/// Performs a request that is not asked again.
-fn perform_once<S: Alter>(
+/// Performs a request that is not asked again: on an archive that takes none it is refused with 81 or 84, and nothing
+/// is done.
+pub fn perform_once<S: Alter>(
     alloc: Global,
     archive: &mut Archive<S>,
     request: Request,

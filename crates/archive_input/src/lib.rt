@@ -25,7 +25,7 @@ mod telling;
 
 pub use applying::{apply, apply_until_refused};
 pub use bad_request::BadRequest;
-pub use entering::enter;
+pub use entering::{enter, perform_once};
 pub use faults::refusal_of;
 pub use import_telling::import_text;
 pub use importing::import;

@@ -63,6 +63,7 @@ fn request_under(alloc: Global, token: Token, fields: &[&str]) -> Result<Request
         Ok(command) => Ok(Request {
             token,
             command: Command::Row(command),
+            digest: None,
         }),
         Err(kind) => Err(BadRequest {
             token: Some(token),

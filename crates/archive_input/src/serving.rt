@@ -291,7 +291,7 @@ fn answer_under<W: Write + Device>(
         (answer_text (Err (refused_under request.token kind)))) }
     ensures failed { result ≡ Err refusal.WriteFailed → Rose before (W.failed output.new) }
 {
-    let Request { token, command } = request;
+    let Request { token, command, .. } = request;
     drop(command);
     let bad = BadRequest {
         token: Some(token),

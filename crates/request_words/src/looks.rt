@@ -50,7 +50,11 @@ fn row_of(
     token: Token,
     command: Command,
 ) -> Result<Vec<u8>, AllocError> {
-    let request = Request { token, command };
+    let request = Request {
+        token,
+        command,
+        digest: None,
+    };
     let found = looks(alloc, state, failure, &request);
     drop(request);
     match found {

@@ -89,7 +89,11 @@ pub fn request_of(
 
 fn request_under(alloc: Global, token: Token, fields: &[&str]) -> Result<Request, RefusalKind> {
     match command_of(alloc, fields) {
-        Ok(command) => Ok(Request { token, command }),
+        Ok(command) => Ok(Request {
+            token,
+            command,
+            digest: None,
+        }),
         Err(kind) => Err(kind),
     }
 }

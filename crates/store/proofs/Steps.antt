@@ -186,7 +186,10 @@ module _ {S : Type 0} (g : Ghosts S) (old : State) (mid new : Held S) (r : Reque
       crash society c r (begun society c rows was keeps).0
 
 -- ---- a request to import
-pub request_is : (r : Request) (forest : List Item) → r.command ≡ command.Import forest → import_of r.token forest ≡ r
-request_is r forest is =
-    let put : Command → Request = λ k. record { token = r.token; command = k } in
-    sym (ap put is)
+pub request_is : (r : Request) (forest : List Item) → r.command ≡ command.Import forest → r.digest ≡ None
+    → import_of r.token forest ≡ r
+request_is r forest is none =
+    let put : Command → Request = λ k. record { token = r.token; command = k; digest = r.digest } in
+    let own : Option (List ℕ) → Request =
+    λ d. record { token = r.token; command = command.Import forest; digest = d } in
+    sym (ap put is ∙ ap own none)

@@ -1,13 +1,13 @@
 //! One request, done before it is answered: an import in steps, and any other in one commit.
 
-ghost use Rattle.std.specs.Prelude.{◌≡◌, ◌≢◌, ◌⊎◌, [], ◌∷◌, false, true, None, Err, IfOk, IfErr, OnOk};
+ghost use Rattle.std.specs.Prelude.{◌≡◌, ◌≢◌, ◌⊎◌, [], ◌∷◌, false, true, None, Err, IfOk, IfErr, IfSome, OnOk};
 ghost use Rattle.std.specs.FinMap.{get};
 ghost use Rattle.sqlite.specs.State.{HasCleanDisk};
 ghost use Rattle.sqlite.specs.Held.{state};
 ghost use Rattle.record_text.specs.declared.refusal.RefusalKind.TheVariants.{OutOfMemory, Storage};
 ghost use Rattle.archive_state.specs.Applied.{applied};
 ghost use Rattle.archive_state.specs.Content.{Content};
-ghost use Rattle.archive_core.specs.Machine.{Does};
+ghost use Rattle.archive_core.specs.Machine.{Does, import_of};
 ghost use Rattle.archive_state.specs.Looks.{is_stop};
 ghost use Rattle.store_tables.specs.Calls.{LeavesAsBefore, LeavesOnly, Settled};
 ghost use Rattle.store_tables.specs.Rows.{Rows};
@@ -30,6 +30,7 @@ use crate::staged::import_on;
 use archive_core::Request;
 use archive_state::Changes;
 use commands::Command;
+use gedcom_tree::Forest;
 use receipts::Answer;
 use record_text::{Refusal, RefusalKind};
 use sqlite::{Alter, Connection};
@@ -59,11 +60,23 @@ pub(crate) fn perform_on<S: Alter>(
     ensures quiet { HasCleanDisk (state S.Store archive.new.conn) → OnArchive (state S.Store archive.old.conn)
         (λ society c rows. OnOk result (archive.new.failures ≡ 0)) }
 {
-    match &request.command {
-        Command::Import(forest) => {
-            import_on(alloc, archive, &request.token, forest, &mut Silent)
-        }
-        _ => perform_at_once(alloc, archive, request),
+    match forest_of(request) {
+        Some(forest) => import_on(alloc, archive, &request.token, forest, &mut Silent),
+        None => perform_at_once(alloc, archive, request),
+    }
+}
+
+/// The forest of a request that is an import, and has no digest of its own.
+#[tactic(auto, using(crate::proofs::Steps::request_is))]
+fn forest_of(request: &Request) -> Option<&Forest>
+    ensures { IfSome result (λ forest. import_of «request».now.token forest.now ≡ «request».now) }
+{
+    match &request.digest {
+        Some(_) => None,
+        None => match &request.command {
+            Command::Import(forest) => Some(forest),
+            _ => None,
+        },
     }
 }
 
