@@ -1,6 +1,26 @@
 -- What is kept of a task that ended on the archive in a file, and what is found in what a crash may leave.
-use Rattle.std.proofs.Common.{◌≡◌, ◌⊎◌, ◌∷◌, [], ℕ, ℤ, Bool, List, Some, None, Ok, Err, inl, inr, refl, sym, ap, subst}
-use Rattle.std.specs.Prelude.{Option}
+use Rattle.std.proofs.Common.{
+  ◌≡◌,
+  ◌∙◌,
+  ◌⊎◌,
+  ◌∷◌,
+  [],
+  ℕ,
+  ℤ,
+  Bool,
+  List,
+  Some,
+  None,
+  Ok,
+  Err,
+  inl,
+  inr,
+  refl,
+  sym,
+  ap,
+  subst,
+}
+use Rattle.std.specs.Prelude.{Option, Result}
 use Rattle.std.specs.Io.KnownBytes.{Appends, Keeps as StaysKnown}
 use Rattle.std.specs.declared.io.Read as read
 use Rattle.std.specs.declared.io.Write as write
@@ -17,9 +37,18 @@ use Rattle.archive_core.specs.Machine.{Done, Runs, import_of}
 use Rattle.archive_core.specs.declared.request.Request.{Request}
 use Rattle.archive_output.specs.Exporting.{export_text}
 use Rattle.archive_output.specs.Reading.{OnOpen}
-use Rattle.archive_lists.specs.Texts.{list_text, shown_text}
+use Rattle.archive_lists.specs.Texts.{shown_text}
+use Rattle.record_lists.specs.Texts.{list_text}
 use Rattle.archive_state.specs.Content.{Content}
+use Rattle.archive_pages.specs.Entering.{EntersEntries, EntersPage, IsEntered, answered, page_request}
+use Rattle.archive_pages.specs.declared.entering.PageEnd.TheVariants.{Entered, Unread}
+use Rattle.page_batches.specs.Batches.{rows_on}
+use Rattle.page_batches.specs.Words.{numbers_of}
+use Rattle.page_batches.specs.declared.rows.BatchRefusal.{BatchRefusal}
+use Rattle.page_entries.specs.Entries.{page_of}
 use Rattle.page_entries.specs.declared.dates.DateOrder.{DateOrder}
+use Rattle.page_entries.specs.declared.entries.PageEntry.{PageEntry}
+use Rattle.table_pages.specs.declared.fault.PageFault.{PageFault}
 use Rattle.request_csv.specs.Batches.{ReadsBatch}
 use Rattle.request_csv.specs.Input.{AreFirstRows, AreRows, Row, row_bytes}
 use Rattle.commands.specs.declared.entry_row.EntryRow.{EntryRow}
@@ -36,7 +65,9 @@ use Rattle.receipts.specs.declared.report.ReportLine.{ReportLine}
 use Rattle.record_text.specs.Text.{IsText}
 use Rattle.record_text.specs.declared.refusal.Refusal.{Refusal}
 use Rattle.record_text.specs.declared.refusal.RefusalKind.{RefusalKind}
+use Rattle.record_text.specs.declared.refusal.RefusalText.{RefusalText}
 use Rattle.record_text.specs.declared.refusal.Unit.TheVariants as unit
+use Rattle.list_laws.proofs.Outcomes.{keeps}
 use Rattle.archive_output.specs.declared.sheet.Sheet.{Sheet}
 use Rattle.store.specs.Archives.{IsArchive}
 use Rattle.store.specs.Earlier.{HoldsArchive}
@@ -68,6 +99,7 @@ use Rattle.tasks.specs.Ends.{
   ChecksTable,
   Does,
   EntersBatch,
+  EntersTable,
   Exports,
   ExportsPlain,
   ImportsFile,
@@ -82,6 +114,8 @@ use Rattle.tasks.specs.Moments.{Moment, Streams, at}
 use Rattle.tasks.specs.Parts.{Shelves}
 use Rattle.tasks.specs.Status.{Finishes, Outcome, Plain, as_text, placeless_text}
 use Rattle.tasks.specs.Stopping.{Concludes, Stopping, as_stopped}
+use Rattle.tasks.specs.Checking.{AreRead}
+use Rattle.tasks.specs.Tables.{PageEntering, PrintsMade, SaysPage}
 use Rattle.tasks.specs.Texts.{made_text}
 use Rattle.tasks.proofs.Quiet.{refused_with_1}
 use Rattle.tasks.specs.declared.task.Task.{Task}
@@ -99,6 +133,22 @@ still_held t s over society c (inl is) left may =
     let found = over.kept society c is left may in
     inl (subst (λ (k : Content). IsArchive society k left) found.1 found.2)
 still_held t s over society c (inr was) left may = over.held society c was left may
+
+-- ---- what a page was answered
+same_answer : (a b : Answer) → ◌≡◌ {A = Result Answer BatchRefusal} (Ok a) (Ok b) → a ≡ b
+same_answer a b is = cc
+
+was_answered : (numbers : List ℕ) (answer : Answer) (o : Answered) → Ok answer ≡ answered numbers o → o ≡ Ok answer
+was_answered numbers answer (Ok a) is = ap Ok (sym (same_answer answer a is))
+was_answered numbers answer (Err e) is = absurd cc
+
+was_refused : (numbers : List ℕ) (why : BatchRefusal) (o : Answered) → Err why ≡ answered numbers o
+    → (e : Refusal) × (o ≡ Err e)
+was_refused numbers why (Ok a) is = absurd cc
+was_refused numbers why (Err e) is = (e, refl)
+
+ok_is_no_err : (answer : Answer) (why : BatchRefusal) → Ok answer ≡ Err why → ⊥
+ok_is_no_err answer why is = absurd cc
 
 -- the law of `archive_runs`
 abbrev pub ArePerformed : {D : Type 0} → disk.Ghosts D → Type 0
@@ -137,6 +187,9 @@ module _ {R W F : Type 0} (reader : read.Ghosts R) (reads : device.Ghosts R) (wr
   undone = never reader writer x y input seen unseen status ended s is
 
   -- what is kept, and what is found in tables that a crash may leave
+  unprinted : y.output ≡ x.output → StaysKnown Got Has
+  unprinted same = subst (λ (w : W). StaysKnown Got (writer.contents w)) (sym same) (keeps Got)
+
   abbrev pub FoundIn : Task → List ℕ → Content → Trees → Type 0
   FoundIn t society c left = (kept : List Done) × (found : Content) × Acts c (Some t) (run t) kept × Runs c kept found
       × HoldsArchive society found left
@@ -146,6 +199,7 @@ module _ {R W F : Type 0} (reader : read.Ghosts R) (reads : device.Ghosts R) (wr
   acts_none task.Apply c none never = inl (refl, none, never)
   acts_none task.ApplyUntilRefused c none never = inl (refl, none, never)
   acts_none (task.Entries token source) c none never = inl (refl, none, never)
+  acts_none (task.EnterTable token source order) c none never = inl (refl, none, never)
   acts_none (task.CheckTable source order) c none never = refl
   acts_none (task.Import token progress) c none never = inl (refl, none, never)
   acts_none task.Export c none never = (refl, λ done. absurd (never done))
@@ -348,6 +402,51 @@ module _ {R W F : Type 0} (reader : read.Ghosts R) (reads : device.Ghosts R) (wr
           let b = batch_read (Err e) enters in
           one_untold law Entering (batch_request token source b.0) made_text (acts_batch b.0 b.1) e b.2 none never
 
+    -- ---- a page
+    module _ (law : ArePerformed g) (token : List ℕ) (source : ℕ) (order : Option DateOrder) where
+      abbrev Paging : Task
+      Paging = task.EnterTable token source order
+
+      module _ (entries : List PageEntry) (reads_them : page_of order input ≡ Ok entries) where
+        acts_page : (rows : List EntryRow) → rows_on c token source entries ≡ Ok rows → (kept : List Done)
+            → KeepsNone (run Paging) kept
+            ⊎ KeepsOne (run Paging) (page_request token source entries rows) made_text kept
+            → Acts c (Some Paging) (run Paging) kept
+        acts_page rows are kept (inl none) = inl none
+        acts_page rows are kept (inr one) = inr (entries, reads_them, rows, are, one)
+
+        -- the archive was read, with what it held
+        rows_held : (r : Result Answer BatchRefusal)
+            → (e : IsEntered over_files token source entries taken r new) → rows_on c token source entries ≡ Ok e.rows
+        rows_held r e =
+            let was_clean = (e.performed clean held.ready).clean in
+            let had_it = (held.has was_clean society c tables holds had).0 in
+            e.right clean had_it.0 c had_it.1 (seen_of had_it.2)
+
+        page_told : (answer : Answer) → EntersEntries over_files token source entries taken (Ok answer) new
+            → Tells (run Paging) (made_text answer) → FoundIn Paging society c left
+        page_told answer (inl e) tells_it =
+            let r = page_request token source entries e.rows in
+            let all : PerformsAll over_files taken ((r, Ok answer) ∷ []) new =
+            subst (λ (o : Answered). PerformsAll over_files taken ((r, o) ∷ []) new)
+            (was_answered (numbers_of entries) answer e.outcome e.is) e.performed in
+            one_told law Paging r made_text (acts_page e.rows (rows_held (Ok answer) e)) answer all tells_it
+        page_told answer (inr refused) tells_it = absurd (ok_is_no_err answer refused.why refused.is)
+
+        page_untold : (why : BatchRefusal) → EntersEntries over_files token source entries taken (Err why) new
+            → seen ≡ [] → ¬ (HasDone ended) → FoundIn Paging society c left
+        page_untold why (inl e) none never =
+            let r = page_request token source entries e.rows in
+            let was = was_refused (numbers_of entries) why e.outcome e.is in
+            let all : PerformsAll over_files taken ((r, Err was.0) ∷ []) new =
+            subst (λ (o : Answered). PerformsAll over_files taken ((r, o) ∷ []) new) was.1 e.performed in
+            one_untold law Paging r made_text (acts_page e.rows (rows_held (Err why) e)) was.0 all none never
+        page_untold why (inr refused) none never =
+            let stays = refused.reads.stays clean in
+            let had_it = (held.has stays.clean society c tables holds had).0 in
+            keeps_none Paging society c left (acts_none Paging c none never)
+            (inl (had_it.0, stays.crash had_it.0 c had_it.1 (seen_of had_it.2) left may, had_it.2))
+
     -- ---- a file
     module _ (law : ArePerformed g) (token : List ℕ) (progress : Bool) where
       abbrev Taking : Task
@@ -468,6 +567,69 @@ module _ {R W F : Type 0} (reader : read.Ghosts R) (reads : device.Ghosts R) (wr
         | inr part ↦ batch_told law token source part.0 part.3
             (tells_part (task.Entries token source) (made_text part.0) part.4.written (undone finishes.0))
       ]
+
+      -- the bytes of a table are those of the input
+      page_of_input : (order : Option DateOrder) (bytes : List ℕ) (r : Result (List PageEntry) PageFault)
+          → AreRead (reader.remaining x.input) bytes → page_of order bytes ≡ r → page_of order input ≡ r
+      page_of_input order bytes r are is =
+          let same : bytes ≡ input = (subst (λ (known : Option (List ℕ)). AreRead known bytes) s.reads are).0 in
+          ap (page_of order) (sym same) ∙ is
+
+      module _ (law : ArePerformed g) (token : List ℕ) (source : ℕ) (order : Option DateOrder) where
+        abbrev Tabling : Task
+        Tabling = task.EnterTable token source order
+
+        -- where it is refused nothing was printed
+        page_refused : new ≡ taken → y.output ≡ x.output → ¬ (HasDone ended) → FoundIn Tabling society c left
+        page_refused same unwritten never = keeps_none Tabling society c left
+            (acts_none Tabling c (nothing_told (unprinted unwritten)) never) (inl (same_archive same))
+
+        page_entered : (o : Outcome) (answer : Answer) (entries : List PageEntry) → page_of order input ≡ Ok entries
+            → EntersEntries over_files token source entries taken (Ok answer) new
+            → PrintsMade writer.contents writes.failed faulter.contents fails.failed o x.output y.output x.faults
+            between answer
+            → Concludes faulter.contents fails.failed Tabling o status between y.faults
+            → FoundIn Tabling society c left
+        page_entered (Ok done) answer entries read enters prints finishes =
+            page_told law token source order entries read answer enters
+            (tells Tabling (made_text answer) prints.printed)
+        page_entered (Err t) answer entries read enters prints finishes =
+            page_told law token source order entries read answer enters
+            (tells_part Tabling (made_text answer) prints.part.2.written
+            (undone (refused_with_1 faulter.contents fails.failed Tabling t status between y.faults finishes)))
+
+        -- by an outcome that is a refusal
+        never_done : (o : Outcome) (t : RefusalText) → o ≡ Err t
+            → Concludes faulter.contents fails.failed Tabling o status between y.faults → ¬ (HasDone ended)
+        never_done o t is finishes = undone
+            (refused_with_1 faulter.contents fails.failed Tabling t status between y.faults
+            (subst (λ (same : Outcome). Concludes faulter.contents fails.failed Tabling same status between y.faults) is
+            finishes))
+
+        bytes_found : (o : Outcome) (bytes : List ℕ) → AreRead (reader.remaining x.input) bytes → (r : PageEntering)
+            → EntersPage over_files token source order bytes taken r new
+            → SaysPage writer.contents writes.failed faulter.contents fails.failed o x.output y.output x.faults between
+            r
+            → Concludes faulter.contents fails.failed Tabling o status between y.faults
+            → FoundIn Tabling society c left
+        bytes_found o bytes are (Ok (Entered answer words)) did says finishes =
+            page_entered o answer did.0 (page_of_input order bytes _ are did.1) did.2.1 says.0 finishes
+        bytes_found o bytes are (Ok (Unread fault)) did (inl bad, unwritten) finishes =
+            page_refused did.1 unwritten (never_done o _ bad.0 finishes)
+        bytes_found o bytes are (Ok (Unread fault)) did (inr want, unwritten) finishes =
+            page_refused did.1 unwritten (never_done o _ want.0 finishes)
+        bytes_found o bytes are (Err e) (inl want) says finishes =
+            page_refused want.1 says.2 (never_done o _ says.0 finishes)
+        bytes_found o bytes are (Err e) (inr did) says finishes =
+            page_untold law token source order did.0 (page_of_input order bytes _ are did.1) e did.2
+            (nothing_told (unprinted says.2)) (never_done o _ says.0 finishes)
+
+        table_found : (o : Outcome)
+            → EntersTable over_files reader reads writer writes faulter fails Before After token source order o
+            → Concludes faulter.contents fails.failed Tabling o status between y.faults
+            → FoundIn Tabling society c left
+        table_found o (inl none) finishes = page_refused none.3 none.4 (never_done o _ none.1 finishes)
+        table_found o (inr did) finishes = bytes_found o did.0 did.1 did.2.0 did.2.1 did.2.2 finishes
 
       import_found : ArePerformed g → (token : List ℕ) (progress : Bool) (o : Outcome)
           → ImportsFile over_files reader reads writer writes faulter fails Before After token o
@@ -595,6 +757,8 @@ module _ {R W F : Type 0} (reader : read.Ghosts R) (reads : device.Ghosts R) (wr
           between y.faults) did.0.1 finishes)
       found_by law back (task.Entries token source) o shown did finishes =
           enter_found law token source o did.0 finishes
+      found_by law back (task.EnterTable token source order) o shown did finishes =
+          table_found law token source order o did.0 finishes
       found_by law back (task.CheckTable source order) o shown did finishes =
           keeps_none (task.CheckTable source order) society c left refl (inl (table_checked source order o did.0))
       found_by law back (task.Import token progress) o shown did finishes =

@@ -21,6 +21,11 @@ use Rattle.archive_input.specs.Answers.{Served}
 use Rattle.archive_input.specs.Applying.{AreServed, AreServedOver, answers, calls_of}
 use Rattle.archive_input.specs.Entering.{batch_request}
 use Rattle.archive_input.specs.Stopping.{AreAccepted, IsUpToRefusal}
+use Rattle.archive_pages.specs.Entering.{page_request}
+use Rattle.page_batches.specs.Batches.{rows_on}
+use Rattle.page_entries.specs.Entries.{page_of}
+use Rattle.page_entries.specs.declared.dates.DateOrder.{DateOrder}
+use Rattle.page_entries.specs.declared.entries.PageEntry.{PageEntry}
 use Rattle.tasks.specs.Texts.{made_text}
 use Rattle.tasks.specs.declared.task.Task.{Task}
 use Rattle.tasks.specs.declared.task.Task.TheVariants as task
@@ -79,17 +84,25 @@ abbrev pub KeepsBatch : List ℕ → ℕ → Run → List Done → Type 0
 KeepsBatch token source run kept = (rows : List EntryRow) × ReadsBatch (row_bytes (Some run.input)) rows
     × KeepsOne run (batch_request token source rows) made_text kept
 
+-- the entries of the page of the input are kept, all of them, with the places that the archive had
+abbrev pub KeepsPage : Content → List ℕ → ℕ → Option DateOrder → Run → List Done → Type 0
+KeepsPage c token source order run kept = (entries : List PageEntry) × (page_of order run.input ≡ Ok entries)
+    × (rows : List EntryRow) × (rows_on c token source entries ≡ Ok rows)
+    × KeepsOne run (page_request token source entries rows) made_text kept
+
 -- the file of the input is kept, whole
 abbrev pub KeepsFile : List ℕ → Run → List Done → Type 0
 KeepsFile token run kept = (forest : List Item) × IsFileOf (Some run.input) forest
     × KeepsOne run (import_of token forest) (λ answer. import_text answer (report forest)) kept
 
--- by its task, of an archive that held this. A batch and a file are kept whole or not at all; an export that is done
--- reads back as the same records; of no other task anything is kept
+-- by its task, of an archive that held this. A batch, a page and a file are kept whole or not at all; an export that is
+-- done reads back as the same records; of no other task anything is kept
 abbrev pub Acts : Content → Option Task → Run → List Done → Type 0
 Acts c (Some task.Apply) run kept = KeepsNone run kept ⊎ KeepsRows c run kept
 Acts c (Some task.ApplyUntilRefused) run kept = KeepsNone run kept ⊎ KeepsUntilRefused c run kept
 Acts c (Some (task.Entries token source)) run kept = KeepsNone run kept ⊎ KeepsBatch token source run kept
+Acts c (Some (task.EnterTable token source order)) run kept =
+    KeepsNone run kept ⊎ KeepsPage c token source order run kept
 Acts c (Some (task.Import token progress)) run kept = KeepsNone run kept ⊎ KeepsFile token run kept
 Acts c (Some task.Export) run kept = (kept ≡ []) × (IsDone run → ReadsBack c run.written)
 Acts c _ run kept = kept ≡ []

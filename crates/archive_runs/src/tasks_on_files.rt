@@ -5,8 +5,8 @@ ghost use Rattle.sqlite_wal.specs.Files.{image_at};
 ghost use Rattle.archive_runs.specs.Tasks.{EndsOnFile};
 
 use archive_files::{Left, LeftFile, Openable, open};
+use archive_output::Shelf;
 use devices::Device;
-use sheets::Library;
 use std::io::{Read, Write};
 use std::rt::HostRuntime;
 use tasks::{FaultStream, Task, perform_task, placeless, status_of};
@@ -25,7 +25,7 @@ pub fn perform_on_file<S: Openable, R: Read + Device, W: Write + Device, F: Faul
     input: &mut R,
     output: &mut W,
     faults: &mut F,
-) -> (u8, Option<Library>, LeftFile<S>)
+) -> (u8, Option<Shelf>, LeftFile<S>)
     ensures { EndsOnFile R.Read R.Device W.Write W.Device F.Write F.Device (image_at S.Start) task
         (record { input = input.old; output = output.old; faults = faults.old })
         (record { input = input.new; output = output.new; faults = faults.new }) result.0 result.1 result.2 }

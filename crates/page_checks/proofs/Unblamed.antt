@@ -1,5 +1,5 @@
 -- No check is refused as a failed write.
-use Rattle.std.proofs.Common.{◌≡◌, ℕ, List, Bool, true, false, Ok, Err, Some, None}
+use Rattle.std.proofs.Common.{ℕ, List, Bool, true, false, Ok, Err, Some, None}
 use Rattle.std.specs.Prelude.{◌≢◌, Option, Result, IfErr}
 use Rattle.std.specs.FinMap.{get}
 use Rattle.archive_state.specs.Content.{Content}

@@ -7,3 +7,4 @@ pub mod Lines
 pub mod Page
 pub mod Rows
 pub mod Unread
+pub mod Refusing

@@ -15,8 +15,10 @@ mod keys;
 pub mod laws;
 mod lines;
 mod page;
+mod refusing;
 mod rows;
 mod unread;
 
 pub use page::{PageCheck, check_page};
+pub use refusing::{page_lines, refused_line};
 pub use unread::fault_lines;

@@ -76,7 +76,7 @@ fn push_findings(
 }
 
 /// Adds the line of what is found.
-fn push_line(
+pub(crate) fn push_line(
     alloc: Global,
     out: &mut String,
     row: usize,

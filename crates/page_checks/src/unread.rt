@@ -17,7 +17,7 @@ pub fn fault_lines(alloc: Global, fault: &PageFault) -> Result<String, AllocErro
     Ok(out)
 }
 
-fn push_refusal(out: &mut String, kind: FaultKind, row: usize) -> Result<(), AllocError>
+pub(crate) fn push_refusal(out: &mut String, kind: FaultKind, row: usize) -> Result<(), AllocError>
     ensures { OnOk result (string_bytes out.new ≡ string_bytes out.old ++ unread.refusal_line kind row) }
 {
     let number = kind.number();

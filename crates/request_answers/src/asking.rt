@@ -56,7 +56,11 @@ fn answer_command<F: ArchiveFiles>(
     token: Token,
     command: Command,
 ) -> Result<Vec<u8>, AllocError> {
-    let request = Request { token, command };
+    let request = Request {
+        token,
+        command,
+        digest: None,
+    };
     let answer = archives.ask(alloc, &request);
     drop(request);
     answer

@@ -42,6 +42,7 @@ abbrev pub says : Task → Bool
 says task.Apply = true
 says task.ApplyUntilRefused = true
 says (task.Import token progress) = progress
+says (task.EnterTable token source order) = true
 says task.ExportPlain = true
 says (task.ExportPublicPlain today) = true
 says _ = false
@@ -114,6 +115,7 @@ module _ {S R W F : Type 0} (g : Ghosts S) (reader : read.Ghosts R) (reads : dev
   does_quietly task.Apply a b o shown did is = absurd (true≢false is)
   does_quietly task.ApplyUntilRefused a b o shown did is = absurd (true≢false is)
   does_quietly (task.Entries token source) a b o shown did is = on_ok o did.1
+  does_quietly (task.EnterTable token source order) a b o shown did is = absurd (true≢false is)
   does_quietly (task.CheckTable source order) a b o shown did is = checked_quietly a b source order o did.0
   does_quietly (task.Import token progress) a b o shown did is =
       on_ok o (far_quiet g reader reads writer writes faulter fails a b progress token o is did.1)

@@ -34,7 +34,9 @@ use Rattle.archive_output.specs.Exporting.{IsPart, export_text}
 use Rattle.archive_output.specs.Reading.{OnOpen, OnlyReads, OnlyReadsAny}
 use Rattle.archive_lists.specs.Checks.{EndsChecking}
 use Rattle.archive_lists.specs.Ends.{EndsWriting, OnRead}
-use Rattle.archive_lists.specs.Texts.{list_text, shown_text}
+use Rattle.archive_lists.specs.Texts.{shown_text}
+use Rattle.record_lists.specs.Texts.{list_text}
+use Rattle.archive_pages.specs.Entering.{EntersPage}
 use Rattle.archive_state.specs.Content.{Content}
 use Rattle.archive_state.specs.Looks.{is_failure}
 use Rattle.request_csv.specs.Input.{row_bytes}
@@ -68,6 +70,7 @@ use Rattle.tasks.specs.Moments.{Moment}
 use Rattle.tasks.specs.Parts.{IsPrintedPart, PrintsAudit, Shelves}
 use Rattle.tasks.specs.Status.{Outcome, Plain, as_text, is_80, placeless_text}
 use Rattle.tasks.specs.Stopping.{Concludes, Stopping, as_stopped}
+use Rattle.tasks.specs.Tables.{PageEntering, SaysPage}
 use Rattle.tasks.specs.Texts.{made_text}
 use Rattle.tasks.specs.declared.task.Task.{Task}
 use Rattle.tasks.specs.declared.task.Task.TheVariants as task
@@ -188,6 +191,23 @@ module _ {S R W F : Type 0} (g : Ghosts S) (reader : read.Ghosts R) (reads : dev
   abbrev pub ChecksTable : ℕ → Option DateOrder → Outcome → Type 0
   ChecksTable source order outcome = IsNoTable outcome
       ⊎ ((bytes : List ℕ) × AreRead (reader.remaining a.input) bytes × LooksOver source order bytes outcome)
+
+  -- ---- a table that is entered, under a token
+  -- this was made of it, or why it was refused
+  abbrev pub PageAt : List ℕ → ℕ → Option DateOrder → List ℕ → PageEntering → Type 0
+  PageAt token source order bytes r = EntersPage g token source order bytes a.archive r b.archive
+
+  -- these bytes were entered, all rows or none, and it was said what they have come to
+  abbrev pub EntersBytes : List ℕ → ℕ → Option DateOrder → List ℕ → Outcome → Type 0
+  EntersBytes token source order bytes outcome =
+      (r : PageEntering) × PageAt token source order bytes r
+      × SaysPage writer.contents writes.failed faulter.contents fails.failed outcome a.output b.output a.faults
+      b.faults r
+
+  -- the table of the input was entered, or refused; or it was not read
+  abbrev pub EntersTable : List ℕ → ℕ → Option DateOrder → Outcome → Type 0
+  EntersTable token source order outcome = IsNoTable outcome
+      ⊎ ((bytes : List ℕ) × AreRead (reader.remaining a.input) bytes × EntersBytes token source order bytes outcome)
 
   -- ---- a file, under a token
   abbrev pub FileWhole : List ℕ → Answer → List ReportLine → Type 0
@@ -322,6 +342,7 @@ module _ {S R W F : Type 0} (g : Ghosts S) (reader : read.Ghosts R) (reads : dev
       ((r : Stopping) × (outcome ≡ as_stopped r) × AppliesUntilRefused r) × (shown ≡ None)
   Does (task.Entries token source) outcome shown = EntersBatch token source outcome × IsQuiet × (shown ≡ None)
   Does (task.CheckTable source order) outcome shown = ChecksTable source order outcome × (shown ≡ None)
+  Does (task.EnterTable token source order) outcome shown = EntersTable token source order outcome × (shown ≡ None)
   Does (task.Import token progress) outcome shown = ImportsFile token outcome × SaysHowFar progress token outcome
       × (shown ≡ None)
   Does task.Export outcome shown = Ended outcome Exports × IsUnread × IsQuiet × (shown ≡ None)

@@ -7,4 +7,5 @@ pub mod Moments
 pub mod Parts
 pub mod Status
 pub mod Stopping
+pub mod Tables
 pub mod Texts

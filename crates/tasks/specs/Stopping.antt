@@ -36,10 +36,12 @@ as_stopped (Ok (Some e)) = Err (record { refusal = e; unit = unit.Row })
 as_stopped (Err kind) = Err (placeless_text kind)
 
 -- a task ends at a row that is refused, of which the faults have a line beside its answer; and of a table that is
--- checked there are lines for all that is wrong with its rows, or why it is none
+-- checked there are lines for all that is wrong with its rows, or why it is none, and of one that is entered for its
+-- first fault
 abbrev pub reporting_of : Task → Reporting
 reporting_of task.ApplyUntilRefused = Row
 reporting_of (task.CheckTable source order) = Table
+reporting_of (task.EnterTable token source order) = Table
 reporting_of _ = Nothing
 
 abbrev pub names_row : Outcome → Bool

@@ -49,7 +49,10 @@ pub(crate) fn check_table<S: Alter, R: Read + Device, W: Write + Device, F: Faul
 }
 
 /// The bytes of the input. 94: the input failed. 27: there are more than 67,108,864. 1: memory was refused.
-fn read_table<R: Read + Device>(alloc: Global, input: &mut R) -> Result<Vec<u8>, RefusalKind>
+pub(crate) fn read_table<R: Read + Device>(
+    alloc: Global,
+    input: &mut R,
+) -> Result<Vec<u8>, RefusalKind>
     ensures bytes { IfOk result (λ all. AreRead (R.remaining input.old) all.items) }
     ensures error { IfErr result (IsUnread (R.remaining input.old) (Rose (R.failed input.old) (R.failed input.new))) }
 {

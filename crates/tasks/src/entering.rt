@@ -56,7 +56,7 @@ pub(crate) fn enter_batch<S: Alter, R: Read + Device, W: Write + Device>(
 }
 
 /// Prints how many entries were made, and the number of the first.
-fn print_made<W: Write + Device>(
+pub(crate) fn print_made<W: Write + Device>(
     alloc: Global,
     answer: Answer,
     output: &mut W,

@@ -19,6 +19,7 @@ mod plain_exporting;
 mod progress;
 mod status;
 mod stopping;
+mod tabling;
 mod task;
 
 pub use faults::FaultStream;

@@ -12,13 +12,13 @@ use crate::libraries::show_library;
 use crate::plain_exporting::{export_plain, export_public_plain};
 use crate::status::{placeless, plain};
 use crate::stopping::{conclude, reporting_of, stopped};
+use crate::tabling::enter_table;
 use crate::task::Task;
 use archive_input::{apply, apply_until_refused};
 use archive_lists::{write_list, write_shown};
-use archive_output::{write_archive, write_days, write_public, write_sheet};
+use archive_output::{Shelf, write_archive, write_days, write_public, write_sheet};
 use devices::Device;
 use record_text::{RefusalKind, RefusalText};
-use sheets::Library;
 use sqlite::Alter;
 use std::alloc::Global;
 use std::io::{Read, Write};
@@ -31,7 +31,8 @@ use store::Archive;
 /// Results go to `output`. On `faults` stands, before that line, what is wrong with each row of `Task::Apply` that is
 /// refused, what `Task::Audit` finds wrong, what a plain export leaves out, and with `progress` how far an import is.
 /// Where `Task::ApplyUntilRefused` ends at a row that is refused, the status is 1 after the line of what is wrong with
-/// it; and so it is where `Task::CheckTable` has printed what is wrong with a row, or why the input is no table.
+/// it; and so it is where `Task::CheckTable` has printed what is wrong with a row, or why the input is no table, and
+/// where `Task::EnterTable` has said the first fault of a table.
 ///
 /// 81: a call or a look answered 80 before, and the archive has to be opened again; nothing is read, written or
 /// changed. While an import is open, tasks that read serve, and requests are refused with 84. Else refusals are those
@@ -44,7 +45,7 @@ pub fn perform_task<S: Alter, C: Clock, R: Read + Device, W: Write + Device, F: 
     input: &mut R,
     output: &mut W,
     faults: &mut F,
-) -> (u8, Option<Library>)
+) -> (u8, Option<Shelf>)
     ensures { Ends S.Store R.Read R.Device W.Write W.Device F.Write F.Device task
         (record { archive = archive.old; input = input.old; output = output.old; faults = faults.old })
         (record { archive = archive.new; input = input.new; output = output.new; faults = faults.new })
@@ -64,7 +65,7 @@ fn try_task<S: Alter, C: Clock, R: Read + Device, W: Write + Device, F: FaultStr
     input: &mut R,
     output: &mut W,
     faults: &mut F,
-) -> (Result<(), RefusalText>, Option<Library>)
+) -> (Result<(), RefusalText>, Option<Shelf>)
     ensures does { archive.old.is_lost ≡ false → Does S.Store R.Read R.Device W.Write W.Device F.Write F.Device
         (record { archive = archive.old; input = input.old; output = output.old; faults = faults.old })
         (record { archive = archive.new; input = input.new; output = output.new; faults = faults.new })
@@ -89,7 +90,7 @@ fn do_task<S: Alter, C: Clock, R: Read + Device, W: Write + Device, F: FaultStre
     input: &mut R,
     output: &mut W,
     faults: &mut F,
-) -> (Result<(), RefusalText>, Option<Library>)
+) -> (Result<(), RefusalText>, Option<Shelf>)
     requires kept { archive.old.is_lost ≡ false }
     ensures { Does S.Store R.Read R.Device W.Write W.Device F.Write F.Device
         (record { archive = archive.old; input = input.old; output = output.old; faults = faults.old })
@@ -104,6 +105,14 @@ fn do_task<S: Alter, C: Clock, R: Read + Device, W: Write + Device, F: FaultStre
         ),
         Task::Entries { token, source } => (
             enter_batch(alloc, archive, token, source, input, output),
+            None,
+        ),
+        Task::EnterTable {
+            token,
+            source,
+            order,
+        } => (
+            enter_table(alloc, archive, token, source, order, input, output, faults),
             None,
         ),
         Task::CheckTable { source, order } => (

@@ -1,9 +1,9 @@
 //! What may be asked of an archive that is open.
 
-use archive_lists::Listed;
 use archive_output::Sheet;
 use page_entries::DateOrder;
 use receipts::Token;
+use record_lists::Listed;
 
 /// What is asked of an archive that is open. Days are counted from 1970-01-01, day 0.
 #[derive(Debug, Drop)]
@@ -16,6 +16,13 @@ pub enum Task {
     Entries {
         token: Token,
         source: u32,
+    },
+    /// The table of the input as register entries of a source, under a token, all its rows or none. Dates of three
+    /// numbers are in that order, where one is given.
+    EnterTable {
+        token: Token,
+        source: u32,
+        order: Option<DateOrder>,
     },
     /// What is wrong or doubtful in the table of the input, whose rows would be register entries of a source, on the
     /// output. Dates of three numbers are in that order, where one is given.
@@ -45,7 +52,7 @@ pub enum Task {
         sheet: Sheet,
         today: i32,
     },
-    /// What may be shown of the archive on a day, with its index, as a reading room has it.
+    /// What may be shown of the archive on a day, and the name of its society, as a reading room has it.
     Library {
         today: i32,
     },
@@ -58,7 +65,7 @@ pub enum Task {
         last: i32,
         words: bool,
     },
-    /// The lines of what is listed, on the output.
+    /// What is listed, as lines or as rows of CSV, on the output.
     List {
         listing: Listed,
     },

@@ -45,6 +45,9 @@ returns-in-Entries g c =
     let did = c.enter_batch.ensures in
     rw c.in-Entries.is (record { entered = did.entered; refused = did.refused }, refl, refl)
 
+pub returns-in-EnterTable : goal.returns-in-EnterTable
+returns-in-EnterTable g c = rw c.in-EnterTable.is (c.enter_table.ensures, refl)
+
 pub returns-in-CheckTable : goal.returns-in-CheckTable
 returns-in-CheckTable g c = rw c.in-CheckTable.is (c.check_table.ensures, refl)
 

@@ -1,0 +1,4 @@
+pub mod Batches
+pub mod Digests
+pub mod Looks
+pub mod Words

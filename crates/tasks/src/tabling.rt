@@ -1,0 +1,142 @@
+//! A table of register entries, entered on an archive that is open.
+
+ghost use Rattle.std.specs.Prelude.{◌≡◌, IfErr, OnOk, false};
+ghost use Rattle.std.specs.Io.KnownBytes.{Appends};
+ghost use Rattle.devices.specs.Devices.{Rose};
+ghost use Rattle.record_text.specs.declared.refusal.RefusalKind.{RefusalKind as SpecKind};
+ghost use Rattle.tasks.specs.Ends.{EntersTable};
+ghost use Rattle.tasks.specs.Faults.{IsReported};
+ghost use Rattle.tasks.specs.Parts.{IsPrintedPart};
+ghost use Rattle.tasks.specs.Status.{placeless_text};
+ghost use Rattle.tasks.specs.Tables.{SaysFault, SaysPage, words_text};
+ghost use Rattle.tasks.specs.Texts.{made_text};
+
+use crate::checking::read_table;
+use crate::entering::print_made;
+use crate::faults::FaultStream;
+use crate::status::placeless;
+use archive_pages::{PageEnd, enter_page};
+use arrayvec::ArrayString;
+use devices::Device;
+use itoa::Buffer;
+use page_batches::BatchRefusal;
+use page_checks::page_lines;
+use page_entries::DateOrder;
+use receipts::{Answer, Token};
+use record_text::{RefusalKind, RefusalText, Unit};
+use sqlite::Alter;
+use std::alloc::Global;
+use std::io::{Read, Write};
+use store::Archive;
+use table_pages::PageFault;
+
+/// More bytes than the line of how many dates are words has: at most 51.
+const LINE: usize = 64;
+
+/// Reads the table of the input, and enters its rows as a batch of a source, under a token; prints how many entries
+/// were made, with the number of the first, and the faults get how many dates have no days but words.
+///
+/// Refusals as of `archive_pages::enter_page`, with the row, after a line of the cell where one is to blame; nothing is
+/// printed then. 90: the page has a fault, whose lines the faults have got. 94: the input failed. 27: it has more than
+/// 67,108,864 bytes. 95: the output failed. 1: memory was refused. At 95, and at 1 if it is for the line, the batch was
+/// entered, and of the line a prefix may be printed.
+pub(crate) fn enter_table<S: Alter, R: Read + Device, W: Write + Device, F: FaultStream>(
+    alloc: Global,
+    archive: &mut Archive<S>,
+    token: Token,
+    source: u32,
+    order: Option<DateOrder>,
+    input: &mut R,
+    output: &mut W,
+    faults: &mut F,
+) -> Result<(), RefusalText>
+    requires kept { archive.old.is_lost ≡ false }
+    ensures { EntersTable S.Store R.Read R.Device W.Write W.Device F.Write F.Device
+        (record { archive = archive.old; input = input.old; output = output.old; faults = faults.old })
+        (record { archive = archive.new; input = input.new; output = output.new; faults = faults.new })
+        token source order result }
+{
+    match read_table(alloc, input) {
+        Ok(bytes) => {
+            let end = enter_page(alloc, archive, token, source, order, &bytes);
+            say_page(alloc, end, output, faults)
+        }
+        Err(kind) => Err(placeless(kind)),
+    }
+}
+
+/// Prints what entering a page has come to, or says why it was refused.
+fn say_page<W: Write + Device, F: FaultStream>(
+    alloc: Global,
+    end: Result<PageEnd, BatchRefusal>,
+    output: &mut W,
+    faults: &mut F,
+) -> Result<(), RefusalText>
+    ensures { SaysPage W.contents W.failed F.contents F.failed result output.old output.new faults.old faults.new end }
+{
+    match end {
+        Ok(PageEnd::Entered { answer, words }) => {
+            say_words(words, faults);
+            say_made(alloc, answer, output)
+        }
+        Ok(PageEnd::Unread { fault }) => say_fault(alloc, &fault, faults),
+        Err(BatchRefusal { refusal, line }) => {
+            faults.report(line.as_str().as_bytes());
+            Err(refusal.text(Unit::Row))
+        }
+    }
+}
+
+/// Prints how many entries were made, with the number of the first.
+fn say_made<W: Write + Device>(
+    alloc: Global,
+    answer: Answer,
+    output: &mut W,
+) -> Result<(), RefusalText>
+    ensures printed { OnOk result (Appends (W.contents output.old) (W.contents output.new) (made_text answer)) }
+    ensures part { IfErr result (λ t. (kind : SpecKind) × (t ≡ placeless_text kind)
+        × IsPrintedPart (made_text answer) kind (W.contents output.old) (W.contents output.new)
+        (Rose (W.failed output.old) (W.failed output.new))) }
+{
+    match print_made(alloc, answer, output) {
+        Ok(()) => Ok(()),
+        Err(kind) => Err(placeless(kind)),
+    }
+}
+
+/// Says the first fault of a page.
+fn say_fault<F: FaultStream>(
+    alloc: Global,
+    fault: &PageFault,
+    faults: &mut F,
+) -> Result<(), RefusalText>
+    ensures { SaysFault F.contents F.failed result faults.old faults.new fault.now }
+{
+    match page_lines(alloc, fault) {
+        Ok(lines) => {
+            faults.report(lines.as_bytes());
+            Err(placeless(RefusalKind::BadRow))
+        }
+        Err(_) => Err(placeless(RefusalKind::OutOfMemory)),
+    }
+}
+
+/// Says how many dates of a page have no days but words. Takes no memory.
+fn say_words<F: FaultStream>(words: usize, faults: &mut F)
+    ensures { IsReported F.contents F.failed faults.old faults.new (words_text words) }
+{
+    let line = words_line(words);
+    faults.report(line.as_str().as_bytes());
+}
+
+fn words_line(words: usize) -> ArrayString<LINE>
+    ensures { result.bytes ≡ words_text words }
+{
+    let mut line = ArrayString::new();
+    if words > 0 {
+        line.push_str(Buffer::new().format(words));
+        line.push_str(" dates have no days but words");
+        line.push_str("\n");
+    }
+    line
+}
