@@ -1,3 +1,3 @@
 mod Checked
-mod Looked
+pub mod Looked
 mod Shown

@@ -14,7 +14,7 @@ use std::alloc::{AllocError, Global};
 /// The records and slips of these numbers, each whole, with a blank line between two. `None`: one of the numbers is of
 /// neither.
 #[tactic(auto, using(crate::proofs::Shown::one_more, crate::proofs::Shown::all_shown))]
-pub(crate) fn shown_text<V: View>(
+fn shown_text<V: View>(
     alloc: Global,
     view: &mut V,
     numbers: &[u32],
@@ -28,6 +28,29 @@ pub(crate) fn shown_text<V: View>(
         text = with_record(alloc, view, text, *number)?;
     }
     Ok(text)
+}
+
+/// The same as bytes.
+pub(crate) fn shown_bytes<V: View>(
+    alloc: Global,
+    view: &mut V,
+    numbers: &[u32],
+) -> Result<Option<Vec<u8>>, RefusalKind>
+    ensures shows { On V.View view.old view.new (λ c. Looked result
+        (λ text. option_map texts.items_of text ≡ texts.shown_text c numbers.now)) }
+    ensures counts { CountsFailures (V.failed view.old) (V.failed view.new) result }
+{
+    let text = shown_text(alloc, view, numbers)?;
+    Ok(bytes_of(text))
+}
+
+fn bytes_of(text: Option<String>) -> Option<Vec<u8>>
+    ensures { option_map texts.items_of result ≡ option_map string_bytes text }
+{
+    match text {
+        Some(text) => Some(text.into_bytes()),
+        None => None,
+    }
 }
 
 /// The record of a number below those before it. `None`: one of them is missing, or this one.

@@ -1,6 +1,6 @@
 //! The lines of records, slips and doubts, as a text.
 
-ghost use Rattle.std.specs.Prelude.{◌≡◌, ◌++◌, IfOk, OnOk, Some, option_map, string_bytes};
+ghost use Rattle.std.specs.Prelude.{◌≡◌, ◌++◌, IfOk, OnOk, string_bytes};
 ghost use Rattle.std.specs.FinMap.{entries};
 ghost use Rattle.std.specs.List.{flat_map};
 ghost use Rattle.archive_state.specs.Looks.{CountsFailures, Looked};
@@ -8,9 +8,9 @@ ghost use Rattle.archive_state.specs.Views.{On};
 ghost use Rattle.doubts.specs.Doubts as doubts;
 ghost use Rattle.searching.specs.Lines as lines;
 ghost use Rattle.showing.specs.SlipLists as slip_lists;
-ghost use Rattle.archive_lists.specs.Texts as texts;
+ghost use Rattle.record_lists.specs.Texts as texts;
 
-use crate::listed::Listed;
+use crate::listed::Chosen;
 use archive_state::View;
 use doubts::review_archive;
 use record_text::RefusalKind;
@@ -18,29 +18,20 @@ use searching::{Found, Line, Listing, page, page_and_others};
 use showing::slip_page;
 use std::alloc::{AllocError, Global};
 
-/// The lines of what is listed, by number. There always is a text.
-pub(crate) fn list_text<V: View>(
+/// The lines of what is listed, by number.
+pub(crate) fn lines_text<V: View>(
     alloc: Global,
     view: &mut V,
-    listed: &Listed,
-) -> Result<Option<String>, RefusalKind>
+    chosen: &Chosen,
+) -> Result<String, RefusalKind>
     ensures shows { On V.View view.old view.new (λ c. Looked result
-        (λ text. option_map string_bytes text ≡ Some (texts.list_text listed.now c))) }
+        (λ text. string_bytes text ≡ texts.lines_text chosen.now c)) }
     ensures counts { CountsFailures (V.failed view.old) (V.failed view.new) result }
 {
-    let text = listed_text(alloc, view, listed)?;
-    Ok(Some(text))
-}
-
-fn listed_text<V: View>(alloc: Global, view: &mut V, listed: &Listed) -> Result<String, RefusalKind>
-    ensures shows { On V.View view.old view.new (λ c. Looked result
-        (λ text. string_bytes text ≡ texts.list_text listed.now c)) }
-    ensures counts { CountsFailures (V.failed view.old) (V.failed view.new) result }
-{
-    match listed {
-        Listed::Records { listing } => records_text(alloc, view, listing),
-        Listed::Slips { after, limit } => slips_text(alloc, view, *after, *limit),
-        Listed::Doubts => doubts_text(alloc, view),
+    match chosen {
+        Chosen::Records { listing } => records_text(alloc, view, listing),
+        Chosen::Slips { after, limit } => slips_text(alloc, view, *after, *limit),
+        Chosen::Doubts => doubts_text(alloc, view),
     }
 }
 
@@ -76,7 +67,7 @@ fn records_text<V: View>(
     listing: &Listing,
 ) -> Result<String, RefusalKind>
     ensures shows { On V.View view.old view.new (λ c. Looked result
-        (λ text. string_bytes text ≡ texts.records_text listing.now c)) }
+        (λ text. string_bytes text ≡ texts.records_lines listing.now c)) }
     ensures counts { CountsFailures (V.failed view.old) (V.failed view.new) result }
 {
     if listing.counts_others {
