@@ -1,5 +1,5 @@
-"""Runs state_rows on sheets by hand and on those of drawn archives, and on requests to a reading room, by hand and
-drawn: python3 tests/sheets/run.py [ARCHIVES [PROGRAM]].
+"""Runs state_rows on sheets and pages of HTML by hand and on those of drawn archives, and on requests to a reading
+room, by hand and drawn: python3 tests/sheets/run.py [ARCHIVES [PROGRAM]].
 
 One line a failed case, and last `N passed, M failed`; status 0 only if none failed and one passed.
 """
@@ -17,9 +17,12 @@ sys.path.append(str(HERE.parent))
 
 import drawn  # noqa: E402
 import hands  # noqa: E402
+import html_visits  # noqa: E402
 from asking import answers, differences, given_to  # noqa: E402
 from by_requests import MARRIAGES, SHOWN, VISITS, Visits, not_shown  # noqa: E402
 from heads import Heads  # noqa: E402
+from html_hands import BY_HAND, LONG, OF_LEES, PAGES_OF_LONG  # noqa: E402
+from html_rules import Pages  # noqa: E402
 from memory import REFUSED, fault  # noqa: E402
 from plain import Family, Person, Source, lines  # noqa: E402
 from rows import Ask, Case, given, row  # noqa: E402
@@ -32,6 +35,7 @@ PROGRAM = HERE.parents[1] / "crates/state_rows/out/state_rows"
 TODAY = 19_723  # 2024-01-01
 HEADS = 20  # of each of 25 archives
 SURNAMES = ("Lee", "LEE", "strasse", "", "Ray", "nobody")
+SEARCHED = ("", "a", "lee", "tom le", "STRASSE", "marks with", "x", "?")
 
 
 def stored(records: dict) -> tuple[Ask, ...]:
@@ -48,12 +52,33 @@ def cases_by_hand():
         yield Case(f"by hand: {scene.name}", (*stored(scene.records), *asks))
 
 
+def html(pages: Pages, kind: str, of, page: int) -> Ask:
+    """A page of HTML."""
+    return Ask(row("html", TODAY, kind, of, page), pages.page(kind, of, page))
+
+
+def pages_by_hand():
+    asks = [Ask(row("html", TODAY, *words), wanted) for words, wanted in BY_HAND]
+    yield Case("pages of HTML by hand", (*stored(OF_LEES), *asks))
+    pages = Pages(LONG)
+    yield Case("long lists in HTML", (*stored(LONG), *(html(pages, *asked) for asked in PAGES_OF_LONG)))
+    for name, records in (("by hand", OF_LEES), ("of long lists", LONG)):
+        visits = html_visits.visits(records)
+        asks = [Ask(row("html-visit", TODAY, sent.hex()), got.hex() + "\n") for sent, got in visits]
+        yield Case(f"requests to a room of HTML {name}", (*stored(records), *asks))
+
+
 def drawn_case(seed: int) -> Case:
     """Every sheet of every number of an archive, and the pages."""
     records = drawn.archive(seed)
     sheets = Sheets(records)
     asks = [*stored(records), Ask(row("sheet", TODAY, "index"), sheets.index())]
+    pages = Pages(records)
+    asks.append(html(pages, "home", "", 1))
+    asks += [html(pages, "surname", name, 1) for name in SURNAMES]
+    asks += [html(pages, "search", words, 1) for words in SEARCHED]
     for number in (*records, 0, 121):
+        asks += [html(pages, kind, number, seed % 4 + 1) for kind in ("person", "family", "pedigree", "register")]
         generations = (seed + number) % 7 + 1
 
         def up(subject: int, _: Person) -> list[str]:
@@ -120,7 +145,7 @@ def main() -> int:
     archives = int(sys.argv[1]) if len(sys.argv) > 1 else 100
     program = sys.argv[2] if len(sys.argv) > 2 else PROGRAM
     count, failures = 0, []
-    by_hand = [*cases_by_hand(), *(visits_to(scene) for scene in VISITS)]
+    by_hand = [*cases_by_hand(), *pages_by_hand(), *(visits_to(scene) for scene in VISITS)]
     runs = [by_hand] + [[drawn_case(seed)] for seed in range(archives)]
     for cases in runs:
         count += len(cases)

@@ -96,6 +96,18 @@ each_under old mid new failed sure before stays (Ok a) society P is = (
 )
 each_under old mid new failed sure before stays (Err kind) society P is = tt
 
+-- of a result, whatever the name is
+pub then_sound : {A : Type 0} (old mid new : State) (failed : Bool) → failed ≡ false
+    → (HasCleanDisk new → HasCleanDisk mid) → (HasCleanDisk mid → Stays old failed mid) → (r : Result A RefusalKind)
+    (P : A → Content → Type 0) → IfOk r (λ a. OfSound mid new (P a)) → IfOk r (λ a. OfSound old new (P a))
+then_sound old mid new failed sure before stays (Ok a) P is = (
+  is.0,
+  is.1,
+  λ clean rows settled. is.2 clean rows ((stays (before clean)).same sure rows settled),
+  is.3,
+)
+then_sound old mid new failed sure before stays (Err kind) P is = tt
+
 pub all_under : {A : Type 0} (old mid new : State) (failed : Bool) → failed ≡ false
     → (HasCleanDisk new → HasCleanDisk mid) → (HasCleanDisk mid → Stays old failed mid) → (r : Result A RefusalKind)
     (society : List ℕ) (P : List ℕ → Content → Type 0) → OnOk r (OfSound mid new (P society))

@@ -4,8 +4,8 @@
 //! - `laws`, `public_writing`: public exports: what is shown of an archive, written as a GEDCOM file.
 //! - `plain_publishing`, `plain_writing`: the plain archive of an archive that is open, whole or of what is shown,
 //!   written as a GEDCOM file that other programs take.
-//! - `publishing`, `sheet`, `showing`, `shown_writing`: what is shown of an archive that is open, wherever its tables
-//!   are: its sheets, its public export, and what a reading room has of it.
+//! - `publishing`, `sheet`, `shelf`, `showing`, `shown_writing`: what is shown of an archive that is open, wherever its
+//!   tables are: its sheets, its public export, and what a reading room has of it.
 //! - `day_writing`, `finding`, `lines`, `paths`: the events and register entries of an archive that is open between two
 //!   days, as lines.
 //!
@@ -30,6 +30,7 @@ mod public_writing;
 mod publishing;
 mod reading;
 mod sheet;
+mod shelf;
 mod showing;
 mod shown_writing;
 mod texts;
@@ -40,6 +41,7 @@ pub use plain_publishing::write_public_plain;
 pub use plain_writing::write_plain;
 pub use publishing::write_public;
 pub use sheet::{Sheet, sheet_of};
-pub use showing::{library_of, shown_of};
+pub use shelf::Shelf;
+pub use showing::{shelf_of, shown_of};
 pub use shown_writing::write_sheet;
 pub use texts::write_text;

@@ -11,12 +11,12 @@ ghost use Rattle.store_tables.specs.Looking.{IsFailure};
 ghost use Rattle.archive_output.specs.Reading.{OnOpen, OnlyReadsAny};
 ghost use Rattle.archive_output.specs.Showing.{IsShown, OfSound};
 
-use crate::reading::read_refusal;
+use crate::reading::{read_refusal, society_of};
+use crate::shelf::{Shelf, shelf_with};
 use archive_state::State;
 use audit::sound;
 use masking::{Shown, shown};
-use record_text::RefusalKind;
-use sheets::Library;
+use record_text::{RefusalKind, Text};
 use sqlite::Alter;
 use std::alloc::Global;
 use store::Archive;
@@ -71,12 +71,36 @@ fn masked(alloc: Global, state: &State, today: i32) -> Result<Shown, RefusalKind
     }
 }
 
-/// The same with the index of what is shown, for many sheets: what a reading room has. Refusals as of `shown_of`.
-pub fn library_of<S: Alter>(
+/// The same with the name of the society: what a reading room has. Refusals as of `shown_of`.
+pub fn shelf_of<S: Alter>(
     alloc: Global,
     archive: &mut Archive<S>,
     today: i32,
-) -> Result<Library, RefusalKind>
+) -> Result<Shelf, RefusalKind>
+    requires kept { archive.old.is_lost ≡ false }
+    ensures shown { IfOk result (λ l. OnOpen (state S.Store archive.old.conn) (state S.Store archive.new.conn)
+        (λ society c. IsShown c today l × HasArchive society c (state S.Store archive.new.conn))) }
+    ensures unshown { IfErr result (λ kind. OnOpen (state S.Store archive.old.conn) (state S.Store archive.new.conn)
+        (λ _ _. IsFailure kind)) }
+    ensures stops { IfErr result (λ kind. is_stop kind ≡ true) }
+    ensures lost { archive.new.is_lost ≡ has_broken result }
+    ensures sound { IfOk result (λ l. OfSound (state S.Store archive.old.conn) (state S.Store archive.new.conn)
+        (λ c. IsShown c today l)) }
+    ensures reads { OnlyReadsAny S.Store archive.old archive.new }
+{
+    match society_of(alloc, archive) {
+        Ok(society) => shelf_named(alloc, archive, society, today),
+        Err(kind) => Err(kind),
+    }
+}
+
+/// The same under a name.
+fn shelf_named<S: Alter>(
+    alloc: Global,
+    archive: &mut Archive<S>,
+    society: Text,
+    today: i32,
+) -> Result<Shelf, RefusalKind>
     requires kept { archive.old.is_lost ≡ false }
     ensures shown { IfOk result (λ l. OnOpen (state S.Store archive.old.conn) (state S.Store archive.new.conn)
         (λ society c. IsShown c today l × HasArchive society c (state S.Store archive.new.conn))) }
@@ -89,18 +113,7 @@ pub fn library_of<S: Alter>(
     ensures reads { OnlyReadsAny S.Store archive.old archive.new }
 {
     match shown_of(alloc, archive, today) {
-        Ok(shown) => shelved(alloc, shown),
+        Ok(shown) => Ok(shelf_with(shown, society)),
         Err(kind) => Err(kind),
-    }
-}
-
-/// What is shown, with its index. Refused only if out of memory.
-fn shelved(alloc: Global, shown: Shown) -> Result<Library, RefusalKind>
-    ensures same { IfOk result (λ l. l ≡ shown) }
-    ensures refused { IfErr result (λ kind. kind ≡ OutOfMemory) }
-{
-    match Library::new(alloc, shown) {
-        Ok(library) => Ok(library),
-        Err(_) => Err(RefusalKind::OutOfMemory),
     }
 }

@@ -6,10 +6,10 @@ ghost use Rattle.devices.specs.Devices.{AppendsBeginning, Rose};
 ghost use Rattle.record_text.specs.declared.refusal.RefusalKind.TheVariants as refusal;
 ghost use Rattle.reading_room.specs.Listening.{IsRoomAddress, IsRoomRefusal, listening_line, visits_of};
 
-use crate::room::Room;
 use crate::visits::Visits;
 use devices::{Device, TransferError, write_flushed};
 use record_text::RefusalKind;
+use room_requests::Answering;
 use std::alloc::{AllocError, Global};
 use std::io::Write;
 use std::net::{Net, SocketAddr, TcpListener, TcpStream};
@@ -19,14 +19,16 @@ use std::time::Clock;
 ///
 /// What fails on one connection ends that one, and the next is served. 94: listening or accepting failed. 95: the
 /// output failed. 1: memory was refused to what is said, or the output did not count its error.
-pub fn serve<N: Net<Listener = TcpListener, Stream = TcpStream> + Clock, W: Write + Device>(
+pub fn serve<N, A: Answering, W: Write + Device>(
     alloc: Global,
     net: &N,
-    room: &Room,
+    room: &A,
     port: u16,
     count: u32,
     output: &mut W,
 ) -> Result<(), RefusalKind>
+where
+    N: Net<Listener = TcpListener, Stream = TcpStream> + Clock,
     ensures ok { OnOk result (Appends (W.contents output.old) (W.contents output.new) (listening_line port)) }
     ensures err { OnErr result
         (AppendsBeginning (W.contents output.old) (W.contents output.new) (listening_line port)) }
@@ -40,14 +42,16 @@ pub fn serve<N: Net<Listener = TcpListener, Stream = TcpStream> + Clock, W: Writ
 }
 
 /// The same, with the visits that there were: so many as are asked for.
-fn serve_visits<N: Net<Listener = TcpListener, Stream = TcpStream> + Clock, W: Write + Device>(
+fn serve_visits<N, A: Answering, W: Write + Device>(
     alloc: Global,
     net: &N,
-    room: &Room,
+    room: &A,
     port: u16,
     count: u32,
     output: &mut W,
 ) -> Result<Visits, RefusalKind>
+where
+    N: Net<Listener = TcpListener, Stream = TcpStream> + Clock,
     ensures visits { IfOk result (λ visits. visits_of visits ≡ count) }
     ensures ok { OnOk result (Appends (W.contents output.old) (W.contents output.new) (listening_line port)) }
     ensures err { OnErr result
@@ -73,10 +77,10 @@ fn room_address(port: u16) -> SocketAddr
 }
 
 /// Serves so many connections of a listener. 94: accepting failed.
-fn serve_on<C: Clock>(
+fn serve_on<C: Clock, A: Answering>(
     alloc: Global,
     clock: &C,
-    room: &Room,
+    room: &A,
     listener: &TcpListener,
     count: u32,
 ) -> Result<Visits, RefusalKind>

@@ -4,12 +4,13 @@ ghost use Rattle.std.specs.Prelude.{◌≡◌, ◌≤◌, ℕ, List, codes, IfOk
 ghost use Rattle.record_text.specs.declared.refusal.RefusalKind.{RefusalKind as SpecKind};
 ghost use Rattle.archive_state.specs.Sound.{IsSound};
 ghost use Rattle.room_requests.specs.Queries.{value_of};
+ghost use Rattle.room_requests.specs.Visits.{answer_to as page_answers};
 ghost use Rattle.reading_room.specs.Room as shows;
 ghost use Rattle.reading_room.specs.Sheets.{IsToldOf};
 
 use masking::Shown;
 use record_text::RefusalKind;
-use room_requests::{Page, PageFound, PageText, Pages, Query};
+use room_requests::{Answering, HeadRead, Page, PageFound, PageText, Pages, Query, answer_to};
 use sheets::{Generations, Library};
 use std::alloc::{AllocError, Global};
 use std::marker::Model;
@@ -56,6 +57,16 @@ impl Pages for Room {
             }
             Page::Surname => self.surname(alloc, query),
         }
+    }
+}
+
+impl Answering for Room {
+    ghost answers = { λ r. page_answers (shows.room r.records) };
+
+    ghost is_honest = { λ r. IsSound r };
+
+    fn answer(&self, alloc: Global, shown: HeadRead) -> Result<Vec<u8>, AllocError> {
+        answer_to(alloc, self, shown)
     }
 }
 

@@ -4,9 +4,9 @@ ghost use Rattle.std.specs.Prelude.{◌≡◌, ◌+◌, ◌-◌, ◌^◌, ◌<�
 ghost use Rattle.reading_room.specs.Listening.{visits_of};
 
 use crate::connection::{Timed, take_leave};
-use crate::room::Room;
 use crate::visit::serve_one;
 use devices::Counted;
+use room_requests::Answering;
 use std::alloc::Global;
 use std::io;
 use std::io::BufReader;
@@ -35,11 +35,11 @@ impl Visits {
     }
 
     /// Accepts one more connection, and serves it. An error: accepting failed.
-    pub(crate) fn serve_next<C: Clock>(
+    pub(crate) fn serve_next<C: Clock, A: Answering>(
         &mut self,
         alloc: Global,
         clock: &C,
-        room: &Room,
+        room: &A,
         listener: &TcpListener,
     ) -> io::Result<()>
         requires { visits_of self.old < 2 ^ 32 - 1 }
@@ -54,10 +54,10 @@ impl Visits {
 }
 
 /// Serves one connection, and leaves it so that the visitor can read all of the answer.
-fn serve_visit<C: Clock>(
+fn serve_visit<C: Clock, A: Answering>(
     alloc: Global,
     clock: &C,
-    room: &Room,
+    room: &A,
     stream: &TcpStream,
 ) -> io::Result<()> {
     let mut reader = Counted::new(BufReader::new(alloc, Timed::visit(stream, clock)?)?);

@@ -1,6 +1,7 @@
 pub mod Alone
 pub mod Counts
 pub mod HeadDecided
+pub mod Few
 pub mod Filled
 pub mod Undecided
 pub mod Fronts

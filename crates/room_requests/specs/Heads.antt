@@ -1,10 +1,25 @@
 -- What the bytes of a connection begin with: the head of a request (RFC 9112, sections 2, 3 and 5, by the
 -- grammar of `httparse`), no byte at all, or what is refused.
-use Rattle.std.specs.Prelude.{ℕ, ◌≡◌, ◌<◌, ◌≤◌, ◌⊎◌, Bool, List, [], take, length, codes}
+use Rattle.std.specs.Prelude.{
+  ℕ,
+  ◌≡◌,
+  ◌<◌,
+  ◌≤◌,
+  ◌⊎◌,
+  Bool,
+  if◌then◌else◌,
+  List,
+  [],
+  ◌∷◌,
+  map,
+  take,
+  length,
+  codes,
+}
 use Rattle.std.specs.List.{count_by}
 use Rattle.std.specs.Str.{str_eq_ignore_ascii_case}
 use Rattle.httparse.specs.Grammar.{Field, RequestHead, ReadsRequest, HasNoRequest, print_request}
-use Rattle.httparse.specs.Spans.{RequestExceeds}
+use Rattle.httparse.specs.Spans.{RequestExceeds, name_and_value}
 use Rattle.room_requests.specs.Parts.{Head}
 use Rattle.room_requests.specs.declared.head.HeadRead.{HeadRead}
 use Rattle.room_requests.specs.declared.head.HeadRead.TheVariants as read
@@ -21,6 +36,12 @@ line_limit = 64
 abbrev pub is_host : Field → Bool
 is_host f = str_eq_ignore_ascii_case f.name (codes "host")
 
+-- the value of the first of these names and values whose name is Host; empty where there is none
+abbrev pub first_host : List (List ℕ × List ℕ) → List ℕ
+first_host [] = []
+first_host (line ∷ lines) =
+    if str_eq_ignore_ascii_case line.0 (codes "host") then line.1 else first_host lines
+
 -- what is looked at of a head
 abbrev pub head_of : RequestHead → Head
 head_of h = record {
@@ -28,6 +49,7 @@ head_of h = record {
   target = h.target;
   minor = h.minor;
   hosts = count_by is_host h.fields;
+  host = first_host (map name_and_value h.fields);
 }
 
 -- the bytes begin with this head, which is within both limits

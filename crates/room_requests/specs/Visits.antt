@@ -35,20 +35,32 @@ answer_to room read.Malformed = refusal 400 true
 answer_to room read.TooLarge = refusal 431 true
 answer_to room (read.Whole head) = answer_of room (asked_by head) (not (is_head head))
 
--- these bytes are an answer to that input
-abbrev pub Answers : Room → List ℕ → List ℕ → Type 0
-Answers room input output = (shown : HeadRead) × Begins input shown × (output ≡ answer_to room shown)
+-- what is answered to what a connection begins with
+abbrev pub Answering : Type 0
+Answering = HeadRead → List ℕ
 
--- a head that is malformed or cut, and too large, may be answered with 400 or 431, whatever the room shows
+-- these bytes are an answer to that input
+abbrev pub AnswersBy : Answering → List ℕ → List ℕ → Type 0
+AnswersBy answer input output = (shown : HeadRead) × Begins input shown × (output ≡ answer shown)
+
+-- the same of a room
+abbrev pub Answers : Room → List ℕ → List ℕ → Type 0
+Answers room input output = AnswersBy (answer_to room) input output
+
+-- a head that is malformed or cut, and too large, may be answered as either
+abbrev pub IsEitherBy : Answering → List ℕ → Type 0
+IsEitherBy answer output = (output ≡ answer read.Malformed) ⊎ (output ≡ answer read.TooLarge)
+
+-- in a room that is with 400 or 431, whatever the room shows
 abbrev pub IsEither : List ℕ → Type 0
 IsEither output = (output ≡ refusal 400 true) ⊎ (output ≡ refusal 431 true)
 
 -- the writer has got an answer to the input, where that is known
-abbrev pub Served : Room → Option (List ℕ) → Option (List ℕ) → Option (List ℕ) → Type 0
-Served room input old new =
-    (output : List ℕ) × IfSome input (λ bytes. Answers room bytes output) × Appends old new output
+abbrev pub Served : Answering → Option (List ℕ) → Option (List ℕ) → Option (List ℕ) → Type 0
+Served answer input old new =
+    (output : List ℕ) × IfSome input (λ bytes. AnswersBy answer bytes output) × Appends old new output
 
 -- the writer has got a beginning of an answer to the input
-abbrev pub BeginsToServe : Room → Option (List ℕ) → Option (List ℕ) → Option (List ℕ) → Type 0
-BeginsToServe room input old new =
-    (output : List ℕ) × IfSome input (λ bytes. Answers room bytes output) × AppendsBeginning old new output
+abbrev pub BeginsToServe : Answering → Option (List ℕ) → Option (List ℕ) → Option (List ℕ) → Type 0
+BeginsToServe answer input old new =
+    (output : List ℕ) × IfSome input (λ bytes. AnswersBy answer bytes output) × AppendsBeginning old new output

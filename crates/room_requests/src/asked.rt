@@ -51,14 +51,14 @@ pub fn is_head(head: &Head) -> bool
 }
 
 /// Whether the method is GET or HEAD.
-fn only_reads(head: &Head) -> bool
+pub fn only_reads(head: &Head) -> bool
     ensures { result ≡ spec.only_reads head.now }
 {
     head.method.as_slice() == Method::GET.as_str().as_bytes() || is_head(head)
 }
 
 /// Whether there is one Host, or none of HTTP/1.0.
-fn has_right_hosts(head: &Head) -> bool
+pub fn has_right_hosts(head: &Head) -> bool
     ensures { result ≡ spec.has_right_hosts head.now }
 {
     head.hosts == 1 || (head.hosts == 0 && head.minor == 0)

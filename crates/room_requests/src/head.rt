@@ -13,6 +13,8 @@ pub struct Head {
     pub minor: u8,
     /// How many header lines are named Host, in letters of any case.
     pub hosts: usize,
+    /// The value of the first of them; empty where there is none.
+    pub host: Vec<u8>,
 }
 
 impl Model for Head {
@@ -26,6 +28,7 @@ impl Model for Head {
       target = string_bytes h.target;
       minor = h.minor;
       hosts = h.hosts;
+      host = h.host.items;
     } };
 }
 

@@ -14,7 +14,7 @@ ghost use Rattle.room_requests.specs.Queries.{generations_of};
 ghost use Rattle.room_requests.specs.Targets.{local_of, path_of, query_of};
 ghost use Rattle.room_requests.specs.declared.page.Page.TheVariants as page;
 ghost use Rattle.room_requests.specs.Replies.{reply, refusal};
-ghost use Rattle.room_requests.specs.Visits.{Answers, IsEither, Room};
+ghost use Rattle.room_requests.specs.Visits.{Answering, Answers, AnswersBy, IsEither, IsEitherBy, Room};
 
 /// Only the bytes decide what they begin with, but for a head that is malformed or cut, and too large: it
 /// may be called either.
@@ -66,11 +66,20 @@ pub fn answers_are_spelt()
         ++ codes "Connection: close\r\n\r\nMethod Not Allowed\n" }
 {}
 
+/// Who answers alike to what bytes begin with, answers the same bytes alike, but for a head that is malformed or cut,
+/// and too large: it may be answered as either.
+pub fn the_answers_decide()
+    ensures { (answer other : Answering) (input one two : List ℕ) → answer ≡ other → AnswersBy answer input one
+        → AnswersBy other input two → (one ≡ two) ⊎ (IsEitherBy answer one × IsEitherBy other two) }
+{
+    the_bytes_decide();
+}
+
 /// Two rooms that show the same answer the same bytes alike, but for a head that is malformed or cut, and too large:
 /// it may be answered with 400 or 431, neither of which tells of what the room shows.
 pub fn what_is_shown_decides()
     ensures { (room other : Room) (input one two : List ℕ) → room ≡ other → Answers room input one
         → Answers other input two → (one ≡ two) ⊎ (IsEither one × IsEither two) }
 {
-    the_bytes_decide();
+    the_answers_decide();
 }

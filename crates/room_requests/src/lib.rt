@@ -4,8 +4,8 @@
 //! - `asked`, `laws`, `number`, `page`, `query`, `target`: what the head of a request asks for: a page of the reading
 //!   room with its query, or what is refused whatever the records are.
 //! - `laws`, `replies`, `sending`: answers of the reading room, as bytes, and their way to a visitor.
-//! - `laws`, `pages`, `visit`: one visit: one request read, and one answer written, over any reader and writer and any
-//!   pages.
+//! - `answering`, `laws`, `pages`, `visit`: one visit: one request read, and one answer written, over any reader and
+//!   writer and whoever answers, by pages or otherwise.
 //!
 //! Callers may rely on:
 //! - no more than 8,192 bytes are taken, and none once the head has ended or is ruled out; what is answered depends on
@@ -19,6 +19,7 @@
 //!   or cut, and too large; nothing is written before the answer is whole.
 #![tactic(auto)]
 
+mod answering;
 mod asked;
 mod head;
 pub mod laws;
@@ -32,7 +33,13 @@ mod sending;
 mod target;
 mod visit;
 
-pub use page::Page;
+pub use answering::Answering;
+pub use asked::{has_right_hosts, is_head, only_reads};
+pub use head::{Head, HeadRead};
+pub use number::number_in;
+pub use page::{Page, find_page};
 pub use pages::{PageFound, PageText, Pages};
 pub use query::Query;
-pub use visit::{VisitError, answer_one};
+pub use replies::{push_allow, push_size, push_status};
+pub use target::{local_target, split_query};
+pub use visit::{VisitError, answer_one, answer_to};

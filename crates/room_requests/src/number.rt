@@ -6,7 +6,7 @@ ghost use Rattle.std.specs.List.{list_all};
 ghost use Rattle.room_requests.specs.Pages.{number_in};
 
 /// The number that a text is: 1 to `places` digits, of value 1 to 4,294,967,295. Takes no memory.
-pub(crate) fn number_in(places: usize, text: &str) -> Option<u32>
+pub fn number_in(places: usize, text: &str) -> Option<u32>
     ensures { result ≡ number_in places text.now }
 {
     if text.len() > places || !is_digits(text) {

@@ -35,7 +35,7 @@ pub(crate) enum Route {
 }
 
 /// The page that a path names. `None`: there is none.
-pub(crate) fn find_page(alloc: Global, path: &str) -> Result<Option<Page>, AllocError>
+pub fn find_page(alloc: Global, path: &str) -> Result<Option<Page>, AllocError>
     ensures { IfOk result (λ found. found ≡ page_of path.now) }
 {
     match find_route(alloc, path)? {

@@ -60,8 +60,8 @@ impl Query {
         self.first_value(alloc, "name")
     }
 
-    /// The value of the first pair of that name.
-    fn first_value(&self, alloc: Global, name: &str) -> Result<Option<CowStr<'_>>, AllocError>
+    /// The value of the first pair of that name. `None`: there is none.
+    pub fn first_value(&self, alloc: Global, name: &str) -> Result<Option<CowStr<'_>>, AllocError>
         ensures { IfOk result (λ found. option_map cow_str_bytes found ≡ value_of name.now self.now) }
     {
         'pairs: for pair in parse(alloc, self.text.as_bytes()) {

@@ -1,11 +1,11 @@
 //! Bytes read as far as they show what they begin with.
 
 ghost use Rattle.std.specs.Prelude.{◌≡◌, ◌≤◌, ◌<◌, Err, take, length, All};
-ghost use Rattle.std.specs.Prelude.{IfOk, IfSome, MatchOption, IsUtf8, count_by, string_bytes};
+ghost use Rattle.std.specs.Prelude.{IfOk, IfSome, MatchOption, IsUtf8, count_by, map, string_bytes};
 ghost use Rattle.std.specs.Io.KnownBytes.{Consumes};
 ghost use Rattle.devices.specs.Devices.{Rose};
-ghost use Rattle.httparse.specs.Spans.{IsHeaderWithin, IsRequestOf, IsRequestWithin};
-ghost use Rattle.room_requests.specs.Heads.{Begins};
+ghost use Rattle.httparse.specs.Spans.{IsHeaderWithin, IsRequestOf, IsRequestWithin, header_bytes};
+ghost use Rattle.room_requests.specs.Heads.{Begins, first_host as host_of};
 ghost use Rattle.room_requests.specs.Reading.{
   Shows,
   IsJudged,
@@ -144,11 +144,14 @@ fn copy_head(
 {
     let method = Vec::from_slice(alloc, spans.method.of(front))?;
     let target = copy_text(alloc, spans.path.of(front))?;
+    let lines = &lines[..spans.headers];
+    let host = Vec::from_slice(alloc, first_host(front, lines))?;
     Ok(Head {
         method,
         target,
         minor: spans.version,
-        hosts: count_hosts(front, &lines[..spans.headers]),
+        hosts: count_hosts(front, lines),
+        host,
     })
 }
 
@@ -175,6 +178,19 @@ fn count_hosts(front: &[u8], lines: &[HeaderSpan]) -> usize
         }
     }
     hosts
+}
+
+/// The value of the first of the header lines that is named Host; empty where there is none.
+fn first_host<'a>(front: &'a [u8], lines: &[HeaderSpan]) -> &'a [u8]
+    requires { All (IsHeaderWithin (length front.now)) lines.now }
+    ensures { result.now ≡ host_of (map (header_bytes front.now) lines.now) }
+{
+    'lines: for line in lines {
+        if is_host(front, line) {
+            return line.value.of(front);
+        }
+    }
+    &[]
 }
 
 /// Whether a header line is named Host.

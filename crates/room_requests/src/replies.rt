@@ -59,7 +59,7 @@ fn push_head(
 }
 
 /// Adds the status line.
-fn push_status(bytes: &mut Vec<u8>, status: StatusCode) -> Result<(), AllocError>
+pub fn push_status(bytes: &mut Vec<u8>, status: StatusCode) -> Result<(), AllocError>
     ensures { OnOk result (bytes.new.items ≡ bytes.old.items ++ status_line status) }
 {
     bytes.extend_from_slice(b"HTTP/1.1 ")?;
@@ -71,7 +71,7 @@ fn push_status(bytes: &mut Vec<u8>, status: StatusCode) -> Result<(), AllocError
 }
 
 /// Adds which methods there are, only with 405.
-fn push_allow(bytes: &mut Vec<u8>, status: StatusCode) -> Result<(), AllocError>
+pub fn push_allow(bytes: &mut Vec<u8>, status: StatusCode) -> Result<(), AllocError>
     ensures { OnOk result (bytes.new.items ≡ bytes.old.items ++ allow_line status) }
 {
     if status == StatusCode::METHOD_NOT_ALLOWED {
@@ -81,7 +81,7 @@ fn push_allow(bytes: &mut Vec<u8>, status: StatusCode) -> Result<(), AllocError>
 }
 
 /// Adds how many bytes the page has.
-fn push_size(bytes: &mut Vec<u8>, alloc: Global, size: usize) -> Result<(), AllocError>
+pub fn push_size(bytes: &mut Vec<u8>, alloc: Global, size: usize) -> Result<(), AllocError>
     ensures { OnOk result (bytes.new.items ≡ bytes.old.items ++ size_line size) }
 {
     let line = format!(in alloc; "Content-Length: {size}\r\n")?;

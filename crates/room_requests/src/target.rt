@@ -4,7 +4,7 @@ ghost use Rattle.std.specs.Prelude.{◌≡◌};
 ghost use Rattle.room_requests.specs.Targets.{local_of, from_slash, path_of, query_of};
 
 /// The target without the scheme and the authority of one that begins with `http://`.
-pub(crate) fn local_target(target: &str) -> &str
+pub fn local_target(target: &str) -> &str
     ensures { result.now ≡ local_of target.now }
 {
     match target.strip_prefix("http://") {
@@ -24,7 +24,7 @@ fn from_slash(rest: &str) -> &str
 }
 
 /// The path and the query: what stands before the first question mark and after it.
-pub(crate) fn split_query(target: &str) -> (&str, &str)
+pub fn split_query(target: &str) -> (&str, &str)
     ensures path { result.0.now ≡ path_of target.now }
     ensures query { result.1.now ≡ query_of target.now }
 {

@@ -5,8 +5,9 @@ ghost use Rattle.std.specs.Io.KnownBytes.{Keeps};
 ghost use Rattle.devices.specs.Counts.{failures_of, inner_of};
 ghost use Rattle.devices.specs.Devices.{Rose};
 ghost use Rattle.room_requests.specs.Asked.{asked_by, is_head as is_head_of};
-ghost use Rattle.room_requests.specs.Visits.{Answers, Served, BeginsToServe, answer_to, answer_of, page_answer};
+ghost use Rattle.room_requests.specs.Visits.{AnswersBy, Served, BeginsToServe, answer_to, answer_of, page_answer};
 
+use crate::answering::Answering;
 use crate::asked::{Asked, is_head, read_request};
 use crate::head::{Head, HeadRead};
 use crate::pages::{PageFound, Pages};
@@ -30,24 +31,24 @@ pub enum VisitError {
 }
 
 /// Reads one request and writes its answer. Where the input ends before its first byte nothing is written.
-pub fn answer_one<P: Pages, R: Read + Device, W: Write>(
+pub fn answer_one<A: Answering, R: Read + Device, W: Write>(
     alloc: Global,
-    pages: &P,
+    room: &A,
     reader: &mut R,
     writer: &mut Counted<W>,
 ) -> Result<(), VisitError>
-    ensures ok { P.is_honest pages.now → OnOk result (Served (P.shows pages.now) (R.remaining reader.old)
+    ensures ok { A.is_honest room.now → OnOk result (Served (A.answers room.now) (R.remaining reader.old)
         (W.contents (inner_of writer.old)) (W.contents (inner_of writer.new))) }
     ensures want { result ≡ Err VisitError.OutOfMemory
         → Keeps (W.contents (inner_of writer.old)) (W.contents (inner_of writer.new)) }
     ensures read { result ≡ Err VisitError.ReadFailed
         → Keeps (W.contents (inner_of writer.old)) (W.contents (inner_of writer.new)) }
     ensures blamed { result ≡ Err VisitError.ReadFailed → Rose (R.failed reader.old) (R.failed reader.new) }
-    ensures write { P.is_honest pages.now → result ≡ Err VisitError.WriteFailed → BeginsToServe (P.shows pages.now)
+    ensures write { A.is_honest room.now → result ≡ Err VisitError.WriteFailed → BeginsToServe (A.answers room.now)
         (R.remaining reader.old) (W.contents (inner_of writer.old)) (W.contents (inner_of writer.new)) }
     ensures counted { result ≡ Err VisitError.WriteFailed → Rose (failures_of writer.old) (failures_of writer.new) }
 {
-    let answer = match make_answer(alloc, pages, reader) {
+    let answer = match make_answer(alloc, room, reader) {
         Ok(answer) => answer,
         Err(TransferError::OutOfMemory) => return Err(VisitError::OutOfMemory),
         Err(TransferError::Failed) => return Err(VisitError::ReadFailed),
@@ -59,18 +60,18 @@ pub fn answer_one<P: Pages, R: Read + Device, W: Write>(
 }
 
 /// Reads one request and makes its answer.
-fn make_answer<P: Pages, R: Read + Device>(
+fn make_answer<A: Answering, R: Read + Device>(
     alloc: Global,
-    pages: &P,
+    room: &A,
     reader: &mut R,
 ) -> Result<Vec<u8>, TransferError>
-    ensures ok { P.is_honest pages.now → IfOk result (λ answer. IfSome (R.remaining reader.old)
-        (λ input. Answers (P.shows pages.now) input answer.items)) }
+    ensures ok { A.is_honest room.now → IfOk result (λ answer. IfSome (R.remaining reader.old)
+        (λ input. AnswersBy (A.answers room.now) input answer.items)) }
     ensures failed { result ≡ Err TransferError.Failed → Rose (R.failed reader.old) (R.failed reader.new) }
 {
     let before = reader.failures();
     match read_head(alloc, reader, before) {
-        Ok(shown) => match answer_to(alloc, pages, shown) {
+        Ok(shown) => match room.answer(alloc, shown) {
             Ok(answer) => Ok(answer),
             Err(_) => Err(TransferError::OutOfMemory),
         },
@@ -78,8 +79,8 @@ fn make_answer<P: Pages, R: Read + Device>(
     }
 }
 
-/// The answer to what a connection begins with.
-fn answer_to<P: Pages>(alloc: Global, pages: &P, shown: HeadRead) -> Result<Vec<u8>, AllocError>
+/// The answer to what a connection begins with, by what is found of the page that it asks for.
+pub fn answer_to<P: Pages>(alloc: Global, pages: &P, shown: HeadRead) -> Result<Vec<u8>, AllocError>
     ensures { P.is_honest pages.now
         → IfOk result (λ answer. answer.items ≡ answer_to (P.shows pages.now) shown) }
 {

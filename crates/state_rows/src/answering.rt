@@ -1,10 +1,11 @@
 //! The answer to a row: lines, and one with a full stop.
 
 use crate::files::{say_batch, say_batch_size};
+use crate::html::say_html;
 use crate::masked::{day, say_how_many, say_living, say_shown};
 use crate::session::Session;
 use crate::sheet::say_sheet;
-use crate::visits::say_visit;
+use crate::visits::{say_html_visit, say_visit};
 use archive_state::State;
 use record_text::RefusalKind;
 use row_words::{Answer, line_of, number, word, words_of};
@@ -49,7 +50,9 @@ fn answer(
         "shown" => say_shown(alloc, &session.state, day(words, 1), out),
         "count" => say_how_many(alloc, &session.state, day(words, 1), out),
         "sheet" => say_sheet(alloc, &session.state, words, out),
+        "html" => say_html(alloc, &session.state, words, out),
         "visit" => say_visit(alloc, &session.state, words, out),
+        "html-visit" => say_html_visit(alloc, &session.state, words, out),
         "batch" => Ok(say_batch(alloc, &session.state, word(words, 1), out)?),
         "size" => {
             say_batch_size(alloc, &session.state, word(words, 1), out);

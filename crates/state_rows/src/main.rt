@@ -1,10 +1,11 @@
 //! Answers each row of standard input: records put into a state; who of it is living, what of it is shown, and the
-//! sheets of that; what a reading room answers to a request; what a file of lines would make of it. A tool of the
-//! tests, no part of the product.
+//! sheets and the pages of HTML of that; what a reading room answers to a request; what a file of lines would make of
+//! it. A tool of the tests, no part of the product.
 #![tactic(auto)]
 
 mod answering;
 mod files;
+mod html;
 mod masked;
 mod session;
 mod sheet;

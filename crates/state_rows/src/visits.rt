@@ -1,13 +1,17 @@
 //! Requests to a reading room, and its answers.
 
+use crate::html::SOCIETY;
 use crate::masked::masked_on;
 use archive_state::State;
 use devices::Counted;
 use hex::FromHexError;
+use html_answers::HtmlRoom;
+use html_pages::HtmlLibrary;
+use html_parts::Words;
 use masking::Shown;
 use reading_room::{Room, serve_one};
 use record_text::RefusalKind;
-use room_requests::VisitError;
+use room_requests::{Answering, VisitError};
 use row_words::{Answer, word};
 use std::alloc::Global;
 
@@ -20,29 +24,55 @@ pub(crate) fn say_visit(
     out: &mut Answer,
 ) -> Result<(), RefusalKind> {
     let masked = masked_on(alloc, state, words)?;
-    let written = answer_to(alloc, masked, word(words, 2))?;
+    let room = Room::new(alloc, masked)?;
+    let written = answer_to(alloc, &room, word(words, 2))?;
     out.say_bytes(&written);
     out.say("\n");
     Ok(())
 }
 
-fn answer_to(alloc: Global, masked: Shown, request: &str) -> Result<Vec<u8>, RefusalKind> {
+/// The same of a room of HTML that has a name of its own.
+pub(crate) fn say_html_visit(
+    alloc: Global,
+    state: &State,
+    words: &[String],
+    out: &mut Answer,
+) -> Result<(), RefusalKind> {
+    let masked = masked_on(alloc, state, words)?;
+    let room = html_room(alloc, masked)?;
+    let written = answer_to(alloc, &room, word(words, 2))?;
+    out.say_bytes(&written);
+    out.say("\n");
+    Ok(())
+}
+
+fn html_room(alloc: Global, masked: Shown) -> Result<HtmlRoom, RefusalKind> {
+    let library = HtmlLibrary::new(alloc, masked)?;
+    let society = Words::of(alloc, SOCIETY)?;
+    let host = Some(Words::of(alloc, "Room.example.org")?);
+    Ok(HtmlRoom {
+        library,
+        society,
+        host,
+    })
+}
+
+fn answer_to<A: Answering>(alloc: Global, room: &A, request: &str) -> Result<Vec<u8>, RefusalKind> {
     let bytes = match hex::decode(alloc, request) {
         Ok(bytes) => bytes,
         Err(FromHexError::OutOfMemory) => return Err(RefusalKind::OutOfMemory),
         Err(_) => return Err(RefusalKind::BadRow),
     };
-    let room = Room::new(alloc, masked)?;
     let mut written: Vec<u8> = Vec::new(alloc);
-    match visit(alloc, &room, &bytes, &mut written) {
+    match visit(alloc, room, &bytes, &mut written) {
         Ok(()) => Ok(written),
         Err(end) => Err(refusal_of(end, written.is_empty())),
     }
 }
 
-fn visit(
+fn visit<A: Answering>(
     alloc: Global,
-    room: &Room,
+    room: &A,
     bytes: &[u8],
     written: &mut Vec<u8>,
 ) -> Result<(), VisitError> {

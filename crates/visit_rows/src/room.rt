@@ -2,14 +2,28 @@
 
 ghost use Rattle.std.specs.Prelude.{◌≡◌, Some, IfOk, codes};
 ghost use Rattle.room_requests.specs.Queries.{value_of};
+ghost use Rattle.room_requests.specs.Visits.{answer_to as page_answers};
 ghost use Rattle.visit_rows.specs.Room.{record_page, pedigree_page, generations_page, surname_page};
 
-use room_requests::{Page, PageFound, PageText, Pages, Query};
+use room_requests::{Answering, HeadRead, Page, PageFound, PageText, Pages, Query, answer_to};
 use std::alloc::{AllocError, Global};
 
 /// The room of these tests.
 #[derive(Clone, Copy)]
 pub(crate) struct TestRoom;
+
+impl Answering for TestRoom {
+    ghost use Rattle.std.specs.Prelude.{⊤};
+    ghost use Rattle.visit_rows.specs.Room.{room};
+
+    ghost answers = { λ _. page_answers room };
+
+    ghost is_honest = { λ _. ⊤ };
+
+    fn answer(&self, alloc: Global, shown: HeadRead) -> Result<Vec<u8>, AllocError> {
+        answer_to(alloc, self, shown)
+    }
+}
 
 impl Pages for TestRoom {
     ghost use Rattle.std.specs.Prelude.{⊤};

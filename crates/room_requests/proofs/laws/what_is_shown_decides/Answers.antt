@@ -1,5 +1,7 @@
-use Rattle.room_requests.proofs.VisitDecided.{decided}
+use Rattle.std.proofs.Common.{ap}
+use Rattle.room_requests.specs.Visits.{answer_to}
 use Rattle.room_requests.proofs.laws.what_is_shown_decides.Goals as goal
 
 pub returns : goal.returns
-returns c = decided c.the_bytes_decide.ensures
+returns c room other input one two same =
+    c.the_answers_decide.ensures (answer_to room) (answer_to other) input one two (ap answer_to same)

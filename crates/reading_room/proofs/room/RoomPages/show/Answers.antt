@@ -1,4 +1,4 @@
-use Rattle.reading_room.proofs.Few.{are_few}
+use Rattle.room_requests.proofs.Few.{are_few}
 use Rattle.reading_room.proofs.room.RoomPages.show.Goals as goal
 
 pub pedigree-requires : goal.pedigree-requires
