@@ -2,6 +2,7 @@
 use Rattle.std.proofs.Common.{
   ◌≡◌,
   ◌&&◌,
+  ◌||◌,
   Bool,
   true,
   false,
@@ -27,9 +28,11 @@ use Rattle.std.specs.Prelude.{IfOk, IfSome, IsSome, if◌then◌else◌, not, un
 use Rattle.clap.specs.Words.{Row, Text, fault_of, subcommand_of}
 use Rattle.command_line.specs.Asking.{
   Asks,
+  HasPages,
   HasWords,
   IsMeant,
   IsTaken,
+  are_pages_fit,
   command_named,
   is_fit,
   is_listed,
@@ -42,6 +45,8 @@ use Rattle.command_line.specs.declared.tasks.Asked.{Asked}
 use Rattle.command_line.specs.declared.tasks.Asked.TheVariants as asked
 use Rattle.command_line.specs.declared.tasks.ListKind.{ListKind}
 use Rattle.command_line.specs.declared.tasks.Refused.{Refused}
+use Rattle.command_line.specs.declared.tasks.RoomPages.{RoomPages}
+use Rattle.command_line.specs.declared.tasks.RoomPages.TheVariants.{Html, Plain}
 
 at_name : (found : Option (Text × List Row)) (n : Text) → option_map (λ f. f.0) found ≡ Some n
     → (rows : List Row) × (found ≡ Some (n, rows))
@@ -90,9 +95,19 @@ batch_there : {A B : Type 0} (table checked fits : Bool) (token : Option A) (dat
     → (if table then fits else (is_some token && (not checked && not (is_some dates)))) ≡ true
 batch_there table checked fits token dates t f g e none = rw (f, g, e, none) refl
 
-table_there : (table checked fits meant : Bool) → table ≡ true → checked ≡ true → meant ≡ true
-    → (if table then (checked && meant) else fits) ≡ true
-table_there table checked fits meant t is fit = rw (t, is, fit) refl
+table_there : {A : Type 0} (table checked fits meant : Bool) (token : Option A) → table ≡ true → checked ≡ true
+    → meant ≡ true → (if table then ((checked || is_some token) && meant) else fits) ≡ true
+table_there table checked fits meant token t is fit = rw (t, is, fit) refl
+
+tabled_there : {A : Type 0} (table checked fits meant : Bool) (token : Option A) (given : A) → table ≡ true
+    → checked ≡ false → token ≡ Some given → meant ≡ true
+    → (if table then ((checked || is_some token) && meant) else fits) ≡ true
+tabled_there table checked fits meant token given t none is fit = rw (t, none, is, fit) refl
+
+pages_there : (found : Option (Text × List Row)) (pages : RoomPages) → HasPages found pages
+    → are_pages_fit found ≡ true
+pages_there found Plain has = rw (has.0, has.1) refl
+pages_there found (Html host) has = rw has.0 refl
 
 -- what is asked for fits the command that it has the name and the words of
 fit_of : (a : Asked) (found : Option (Text × List Row))
@@ -110,9 +125,12 @@ fit_of (asked.Apply file stops) found e has some =
 fit_of (asked.Entries file source token) found e has some =
     fit_by (asked.Entries file source token) found (codes "entries") e has
     (λ rows words. batch_there _ _ _ _ _ token.now words.3 words.4 words.2 words.5)
+fit_of (asked.EnterTable file source order token) found e has some =
+    fit_by (asked.EnterTable file source order token) found (codes "entries") e has
+    (λ rows words. tabled_there _ _ _ _ _ token.now words.2 words.3 words.5 (meant_there order_named _ order words.4))
 fit_of (asked.CheckTable file source order) found e has some =
     fit_by (asked.CheckTable file source order) found (codes "entries") e has
-    (λ rows words. table_there _ _ _ _ words.2 words.3 (meant_there order_named _ order words.4))
+    (λ rows words. table_there _ _ _ _ _ words.2 words.3 (meant_there order_named _ order words.4))
 fit_of (asked.Import file token progress) found e has some =
     fit_by (asked.Import file token progress) found (codes "import") e has (λ rows words. refl)
 fit_of (asked.Export file) found e has some =
@@ -128,23 +146,26 @@ fit_of (asked.ExportPublicPlain file today) found e has some =
 fit_of (asked.Sheet file kind number generations today) found e has some =
     fit_by (asked.Sheet file kind number generations today) found (codes "sheet") e has
     (λ rows words. both_there _ _ kind today words.1 words.5)
-fit_of (asked.Serve file port count today) found e has some =
-    fit_by (asked.Serve file port count today) found (codes "serve") e has (λ rows words. there _ today words.3)
+fit_of (asked.Serve file port count today pages) found e has some =
+    fit_by (asked.Serve file port count today pages) found (codes "serve") e has
+    (λ rows words. both_true _ _ (there _ today words.3) (pages_there (Some (codes "serve", rows)) pages words.4))
 fit_of (asked.Audit file) found e has some =
     fit_by (asked.Audit file) found (codes "audit") e has (λ rows words. refl)
 fit_of (asked.Days file first last told) found e has some =
     fit_by (asked.Days file first last told) found (codes "days") e has
     (λ rows words. both_there _ _ first last words.1 words.2)
-fit_of (asked.List file kind source after limit) found e has some =
-    fit_by (asked.List file kind source after limit) found (codes "list") e has
+fit_of (asked.List file kind source after limit csv) found e has some =
+    fit_by (asked.List file kind source after limit csv) found (codes "list") e has
     (λ rows words. list_there _ kind source _ words.1 words.2 words.3)
-fit_of (asked.Find file names kind limit) found e has some =
-    fit_by (asked.Find file names kind limit) found (codes "find") e has
+fit_of (asked.Find file names kind limit csv) found e has some =
+    fit_by (asked.Find file names kind limit csv) found (codes "find") e has
     (λ rows words. both_true _ _ words.2 (meant_there records_named _ kind words.3))
 fit_of (asked.Show file numbers) found e has some =
     fit_by (asked.Show file numbers) found (codes "show") e has (λ rows words. refl)
-fit_of (asked.Review file) found e has some =
-    fit_by (asked.Review file) found (codes "review") e has (λ rows words. refl)
+fit_of (asked.Review file csv) found e has some =
+    fit_by (asked.Review file csv) found (codes "review") e has (λ rows words. refl)
+fit_of (asked.Completions text) found e has some =
+    fit_by (asked.Completions text) found (codes "completions") e has (λ rows words. words)
 fit_of (asked.Text text) found e has some = absurd cc
 
 -- words in which the grammar finds no fault, and that have the name and the words of what is asked for, ask for it

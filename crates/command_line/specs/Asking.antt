@@ -3,6 +3,7 @@ use Rattle.std.specs.Prelude.{
   ◌≡◌,
   ◌⊎◌,
   ◌&&◌,
+  ◌||◌,
   ℕ,
   ℤ,
   ⊤,
@@ -25,6 +26,7 @@ use Rattle.std.specs.Prelude.{
   not,
   option_and_then,
   option_map,
+  string_bytes,
   unwrap_or,
   if◌then◌else◌,
 }
@@ -40,6 +42,7 @@ use Rattle.command_line.specs.Days.{day_read}
 use Rattle.command_line.specs.Meanings.{
   generations_of,
   is_searched,
+  is_shell,
   kind_named,
   list_named,
   number_of,
@@ -56,8 +59,10 @@ use Rattle.command_line.specs.declared.tasks.Asked.TheVariants.{
   Check,
   CheckAll,
   CheckTable,
+  Completions,
   Convert,
   Days,
+  EnterTable,
   Entries as EntriesAsked,
   Export,
   ExportPlain,
@@ -79,6 +84,8 @@ use Rattle.command_line.specs.declared.tasks.RecordKind.{RecordKind}
 use Rattle.command_line.specs.declared.tasks.RecordKind.TheVariants.{Entries}
 use Rattle.command_line.specs.declared.tasks.Refused.{Refused}
 use Rattle.command_line.specs.declared.tasks.Refused.TheVariants.{OutOfMemory}
+use Rattle.command_line.specs.declared.tasks.RoomPages.{RoomPages}
+use Rattle.command_line.specs.declared.tasks.RoomPages.TheVariants.{Html, Plain}
 use Rattle.command_line.specs.declared.tasks.SheetKind.{SheetKind}
 
 -- the command that words name, the program's name being the first
@@ -94,6 +101,7 @@ name_of (Convert from) = Some (codes "convert")
 name_of (Init file society) = Some (codes "init")
 name_of (Apply file stops) = Some (codes "apply")
 name_of (EntriesAsked file source token) = Some (codes "entries")
+name_of (EnterTable file source order token) = Some (codes "entries")
 name_of (CheckTable file source order) = Some (codes "entries")
 name_of (Import file token progress) = Some (codes "import")
 name_of (Export file) = Some (codes "export")
@@ -101,13 +109,14 @@ name_of (ExportPublic file today) = Some (codes "export")
 name_of (ExportPlain file) = Some (codes "export")
 name_of (ExportPublicPlain file today) = Some (codes "export")
 name_of (Sheet file kind number generations today) = Some (codes "sheet")
-name_of (Serve file port count today) = Some (codes "serve")
+name_of (Serve file port count today pages) = Some (codes "serve")
 name_of (Audit file) = Some (codes "audit")
 name_of (Days file first last words) = Some (codes "days")
-name_of (ListAsked file kind source after limit) = Some (codes "list")
-name_of (Find file words kind limit) = Some (codes "find")
+name_of (ListAsked file kind source after limit csv) = Some (codes "list")
+name_of (Find file words kind limit csv) = Some (codes "find")
 name_of (Show file numbers) = Some (codes "show")
-name_of (Review file) = Some (codes "review")
+name_of (Review file csv) = Some (codes "review")
+name_of (Completions text) = Some (codes "completions")
 name_of _ = None
 
 -- ---- the words that a command is given
@@ -152,6 +161,10 @@ is_public found = is_given found (codes "public")
 abbrev pub is_plain : Option (Text × List Row) → Bool
 is_plain found = is_given found (codes "plain")
 
+-- `--html` is given
+abbrev pub is_html : Option (Text × List Row) → Bool
+is_html found = is_given found (codes "html")
+
 -- `--stop` is given
 abbrev pub is_stop : Option (Text × List Row) → Bool
 is_stop found = is_given found (codes "stop")
@@ -159,6 +172,10 @@ is_stop found = is_given found (codes "stop")
 -- `--progress` is given
 abbrev pub is_told : Option (Text × List Row) → Bool
 is_told found = is_given found (codes "progress")
+
+-- `--csv` is given
+abbrev pub is_csv : Option (Text × List Row) → Bool
+is_csv found = is_given found (codes "csv")
 
 -- `--all` is given
 abbrev pub is_all : Option (Text × List Row) → Bool
@@ -187,6 +204,11 @@ is_listed Slips source = not (is_some source)
 abbrev pub kind_in : Option (Text × List Row) → Option SheetKind
 kind_in found = kind_named (word_in found (codes "KIND"))
 
+-- pages of text or of HTML, and these have the name that is given
+abbrev pub HasPages : Option (Text × List Row) → RoomPages → Type 0
+HasPages found Plain = (is_html found ≡ false) × (given_in found (codes "host") ≡ None)
+HasPages found (Html host) = (is_html found ≡ true) × (option_map string_bytes host ≡ given_in found (codes "host"))
+
 -- what is asked for has the words that the command is given
 abbrev pub HasWords : Option (Text × List Row) → Asked → Type 0
 HasWords found Check = is_all found ≡ false
@@ -199,6 +221,10 @@ HasWords found (EntriesAsked file source token) =
     (file.now ≡ word_in found (codes "FILE")) × (source ≡ number_of (word_in found (codes "source")))
     × (given_in found (codes "token") ≡ Some token.now) × (is_table found ≡ false) × (is_checked found ≡ false)
     × (given_in found (codes "dates") ≡ None)
+HasWords found (EnterTable file source order token) =
+    (file.now ≡ word_in found (codes "FILE")) × (source ≡ number_of (word_in found (codes "source")))
+    × (is_table found ≡ true) × (is_checked found ≡ false) × IsMeant order_named (given_in found (codes "dates")) order
+    × (given_in found (codes "token") ≡ Some token.now)
 HasWords found (CheckTable file source order) =
     (file.now ≡ word_in found (codes "FILE")) × (source ≡ number_of (word_in found (codes "source")))
     × (is_table found ≡ true) × (is_checked found ≡ true) × IsMeant order_named (given_in found (codes "dates")) order
@@ -221,24 +247,27 @@ HasWords found (Sheet file kind number generations today) =
     (file.now ≡ word_in found (codes "FILE")) × (kind_in found ≡ Some kind)
     × (number ≡ number_of (word_in found (codes "NO"))) × (generations ≡ generations_in found)
     × IsInRange 1 12 generations × (day_in found ≡ Some today)
-HasWords found (Serve file port count today) =
+HasWords found (Serve file port count today pages) =
     (file.now ≡ word_in found (codes "FILE")) × (port ≡ number_up_to 65535 (word_in found (codes "port")))
-    × (count ≡ number_of (word_in found (codes "count"))) × (day_in found ≡ Some today)
+    × (count ≡ number_of (word_in found (codes "count"))) × (day_in found ≡ Some today) × HasPages found pages
 HasWords found (Audit file) = file.now ≡ word_in found (codes "FILE")
-HasWords found (Review file) = file.now ≡ word_in found (codes "FILE")
+HasWords found (Review file csv) = (file.now ≡ word_in found (codes "FILE")) × (csv ≡ is_csv found)
 HasWords found (Days file first last words) =
     (file.now ≡ word_in found (codes "FILE")) × (day_given found (codes "from") ≡ Some first)
     × (day_given found (codes "to") ≡ Some last) × (words ≡ is_given found (codes "words"))
-HasWords found (ListAsked file kind source after limit) =
+HasWords found (ListAsked file kind source after limit csv) =
     (file.now ≡ word_in found (codes "FILE")) × (list_named (word_in found (codes "KIND")) ≡ Some kind)
     × (source ≡ number_given found (codes "source")) × (is_listed kind source ≡ true)
     × (after ≡ number_of (word_in found (codes "after"))) × (limit ≡ number_given found (codes "limit"))
-HasWords found (Find file words kind limit) =
+    × (csv ≡ is_csv found)
+HasWords found (Find file words kind limit csv) =
     (file.now ≡ word_in found (codes "FILE")) × (words ≡ flat_map search_words (words_in found (codes "WORD")))
     × (list_all is_searched (words_in found (codes "WORD")) ≡ true)
     × IsMeant records_named (given_in found (codes "kind")) kind × (limit ≡ number_given found (codes "limit"))
+    × (csv ≡ is_csv found)
 HasWords found (Show file numbers) =
     (file.now ≡ word_in found (codes "FILE")) × (numbers.items ≡ map number_of (words_in found (codes "NO")))
+HasWords found (Completions text) = is_shell (word_in found (codes "SHELL")) ≡ true
 HasWords found _ = ⊤
 
 -- ---- the words that are taken
@@ -259,6 +288,10 @@ is_export_fit found =
 abbrev pub is_meant : {A : Type 0} → (Text → Option A) → Option Text → Bool
 is_meant meaning word = option_map_or (λ w. is_some (meaning w)) word true
 
+-- a room of text is given no name
+abbrev pub are_pages_fit : Option (Text × List Row) → Bool
+are_pages_fit found = is_html found || not (is_some (given_in found (codes "host")))
+
 -- a list has a kind of records or is of slips, and it has a source only with entries
 abbrev pub is_list_fit : Option (Text × List Row) → Bool
 is_list_fit found = option_map_or (λ kind. is_listed kind (number_given found (codes "source")))
@@ -274,27 +307,29 @@ abbrev pub is_batch_fit : Option (Text × List Row) → Bool
 is_batch_fit found = is_some (given_in found (codes "token"))
     && (not (is_checked found) && not (is_some (given_in found (codes "dates"))))
 
--- a table is checked, and where an order of dates is given it is one; a token is not looked at
+-- a table is checked, and then a token is not looked at, or it has a token; where an order of dates is given it is one
 abbrev pub is_table_fit : Option (Text × List Row) → Bool
-is_table_fit found = is_checked found && is_meant order_named (given_in found (codes "dates"))
+is_table_fit found = (is_checked found || is_some (given_in found (codes "token")))
+    && is_meant order_named (given_in found (codes "dates"))
 
 abbrev pub are_entries_fit : Option (Text × List Row) → Bool
 are_entries_fit found = if is_table found then is_table_fit found else is_batch_fit found
 
--- beside the grammar: entries are a batch with a token or a table that is checked, a sheet has a kind and a day, a room
--- has a day, a list has a kind, a search has words with letters or digits, and what is given of a kind, of a character
--- set or of an order of dates is one
+-- beside the grammar: entries are a batch or a table with a token, or a table that is checked, a sheet has a kind and a
+-- day, a room has a day and a name only with HTML, a list has a kind, a search has words with letters or digits,
+-- completions are of a shell, and what is given of a kind, of a character set or of an order of dates is one
 abbrev pub is_fit : Option (Text × List Row) → Bool
 is_fit found =
     if is_named found (codes "export") then is_export_fit found
     else if is_named found (codes "entries") then are_entries_fit found
     else if is_named found (codes "sheet") then is_some (kind_in found) && is_some (day_in found)
-    else if is_named found (codes "serve") then is_some (day_in found)
+    else if is_named found (codes "serve") then is_some (day_in found) && are_pages_fit found
     else if is_named found (codes "days") then is_some (day_given found (codes "from")) && is_some
     (day_given found (codes "to"))
     else if is_named found (codes "convert") then is_meant set_named (given_in found (codes "from"))
     else if is_named found (codes "list") then is_list_fit found
     else if is_named found (codes "find") then is_search_fit found
+    else if is_named found (codes "completions") then is_shell (word_in found (codes "SHELL"))
     else true
 
 -- the words are those of a command, with nothing that it does not take: the grammar has no fault to find in them, and

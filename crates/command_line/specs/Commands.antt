@@ -127,6 +127,14 @@ port_rule = needed_number_rule (codes "port") 1 65535
 abbrev pub count_rule : Rule
 count_rule = needed_number_rule (codes "count") 0 1000000
 
+-- `--html`
+abbrev pub html_rule : Rule
+html_rule = flag_rule (codes "html")
+
+-- `--host NAME`, any word here
+abbrev pub host_rule : Rule
+host_rule = option_rule (codes "host")
+
 -- `--from YYYY-MM-DD` and `--to YYYY-MM-DD`, any word here
 abbrev pub from_rule : Rule
 from_rule = needed_rule (codes "from")
@@ -155,6 +163,14 @@ after_rule = maybe_number_rule (codes "after") 0 4294967295
 
 abbrev pub limit_rule : Rule
 limit_rule = maybe_number_rule (codes "limit") 1 4294967295
+
+-- SHELL, any word here
+abbrev pub shell_rule : Rule
+shell_rule = word_rule (codes "SHELL")
+
+-- `--csv`
+abbrev pub csv_rule : Rule
+csv_rule = flag_rule (codes "csv")
 
 -- `--kind KIND`, any word here
 abbrev pub option_kind_rule : Rule
@@ -203,7 +219,9 @@ sheet_shape = record (new_shape (codes "sheet")) {
 }
 
 abbrev pub serve_shape : Shape
-serve_shape = record (new_shape (codes "serve")) { rules = file_rule ∷ port_rule ∷ count_rule ∷ today_rule ∷ [] }
+serve_shape = record (new_shape (codes "serve")) {
+  rules = file_rule ∷ port_rule ∷ count_rule ∷ today_rule ∷ html_rule ∷ host_rule ∷ [];
+}
 
 abbrev pub audit_shape : Shape
 audit_shape = record (new_shape (codes "audit")) { rules = file_rule ∷ [] }
@@ -213,24 +231,27 @@ days_shape = record (new_shape (codes "days")) { rules = file_rule ∷ from_rule
 
 abbrev pub list_shape : Shape
 list_shape = record (new_shape (codes "list")) {
-  rules = file_rule ∷ kind_rule ∷ maybe_source_rule ∷ after_rule ∷ limit_rule ∷ [];
+  rules = file_rule ∷ kind_rule ∷ maybe_source_rule ∷ after_rule ∷ limit_rule ∷ csv_rule ∷ [];
 }
 
 abbrev pub find_shape : Shape
 find_shape = record (new_shape (codes "find")) {
-  rules = file_rule ∷ search_rule ∷ option_kind_rule ∷ limit_rule ∷ [];
+  rules = file_rule ∷ search_rule ∷ option_kind_rule ∷ limit_rule ∷ csv_rule ∷ [];
 }
 
 abbrev pub show_shape : Shape
 show_shape = record (new_shape (codes "show")) { rules = file_rule ∷ records_rule ∷ [] }
 
 abbrev pub review_shape : Shape
-review_shape = record (new_shape (codes "review")) { rules = file_rule ∷ [] }
+review_shape = record (new_shape (codes "review")) { rules = file_rule ∷ csv_rule ∷ [] }
+
+abbrev pub completions_shape : Shape
+completions_shape = record (new_shape (codes "completions")) { rules = shell_rule ∷ [] }
 
 abbrev pub commands : List Shape
 commands = norm_shape ∷ check_shape ∷ convert_shape ∷ init_shape ∷ apply_shape ∷ entries_shape ∷ import_shape
     ∷ export_shape ∷ sheet_shape ∷ serve_shape ∷ audit_shape ∷ days_shape ∷ list_shape ∷ find_shape ∷ show_shape
-    ∷ review_shape ∷ []
+    ∷ review_shape ∷ completions_shape ∷ []
 
 -- the program with its commands
 abbrev pub program : App

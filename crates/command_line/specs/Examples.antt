@@ -15,6 +15,11 @@ table_words name =
     name ∷ codes "entries" ∷ codes "ashby.db" ∷ codes "--table" ∷ codes "--check" ∷ codes "--source" ∷ codes "3"
     ∷ codes "--dates" ∷ codes "dmy" ∷ []
 
+abbrev pub entered_table_words : Text → List Text
+entered_table_words name =
+    name ∷ codes "entries" ∷ codes "ashby.db" ∷ codes "--table" ∷ codes "--source" ∷ codes "3" ∷ codes "--dates"
+    ∷ codes "dmy" ∷ codes "--token" ∷ codes "page-12" ∷ []
+
 abbrev pub import_words : Text → List Text
 import_words name =
     name ∷ codes "import" ∷ codes "ashby.db" ∷ codes "--token" ∷ codes "first-file" ∷ []
@@ -45,6 +50,11 @@ abbrev pub serve_words : Text → List Text
 serve_words name =
     name ∷ codes "serve" ∷ codes "ashby.db" ∷ codes "--port" ∷ codes "8080" ∷ codes "--count" ∷ codes "1000"
     ∷ codes "--today" ∷ codes "2024-01-01" ∷ []
+
+abbrev pub html_words : Text → List Text
+html_words name =
+    name ∷ codes "serve" ∷ codes "ashby.db" ∷ codes "--port" ∷ codes "8080" ∷ codes "--count" ∷ codes "1000"
+    ∷ codes "--today" ∷ codes "2024-01-01" ∷ codes "--html" ∷ []
 
 abbrev pub days_words : Text → List Text
 days_words name =

@@ -104,6 +104,10 @@ order_named word =
     else if bytes_eq word (codes "mdy") then Some MonthFirst
     else None
 
+-- the name of a shell
+abbrev pub is_shell : Text → Bool
+is_shell word = if bytes_eq word (codes "bash") then true else bytes_eq word (codes "zsh")
+
 -- the words of a search that a word has, and whether it has some
 abbrev pub search_words : Text → List Text
 search_words word = words_of (folded_text (chars word))

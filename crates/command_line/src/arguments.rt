@@ -85,7 +85,7 @@ pub(crate) const MAYBE_TOKEN: Word = Word {
 
 pub(crate) const TABLE: Word = Word {
     id: "table",
-    help: "The input is a table as a spreadsheet writes it; only with --check",
+    help: "The input is a table as a spreadsheet writes it, with a header row",
     form: Form::Flag,
     needed: false,
     numbers: None,
@@ -193,6 +193,22 @@ pub(crate) const COUNT: Word = Word {
     numbers: Some((0, 1_000_000)),
 };
 
+pub(crate) const HTML: Word = Word {
+    id: "html",
+    help: "Give pages of HTML, not of text",
+    form: Form::Flag,
+    needed: false,
+    numbers: None,
+};
+
+pub(crate) const HOST: Word = Word {
+    id: "host",
+    help: "A name that the room may be asked for, as behind a proxy; only with --html",
+    form: Form::Named("NAME"),
+    needed: false,
+    numbers: None,
+};
+
 pub(crate) const FIRST_DAY: Word = Word {
     id: "from",
     help: "The first of the days",
@@ -286,6 +302,23 @@ pub(crate) const FOUND_LIMIT: Word = Word {
     form: Form::Named("N"),
     needed: false,
     numbers: Some((1, MOST_NUMBER)),
+};
+
+/// Whether it is a shell is judged where it is read.
+pub(crate) const SHELL: Word = Word {
+    id: "SHELL",
+    help: "The shell: bash or zsh",
+    form: Form::Place,
+    needed: true,
+    numbers: None,
+};
+
+pub(crate) const CSV: Word = Word {
+    id: "csv",
+    help: "Print rows of CSV below a header in place of lines",
+    form: Form::Flag,
+    needed: false,
+    numbers: None,
 };
 
 pub(crate) const SEARCH: Word = Word {

@@ -30,10 +30,11 @@ ghost use Rattle.command_line.specs.Meanings.{is_searched, records_named, search
 ghost use Rattle.command_line.specs.declared.tasks.Refused.TheVariants.{OutOfMemory};
 
 use crate::refusing::{no_entries, no_value, no_word};
+use crate::shells::completions_of;
 use crate::tasks::{Asked, ListKind, RecordKind, Refused};
 use crate::words::{
-    given_number, given_word, list_named, number_of, numbers_of, records_named, set_named, word_of,
-    words_of,
+    given_number, given_word, is_yes, list_named, number_of, numbers_of, records_named, set_named,
+    word_of, words_of,
 };
 use clap::ArgMatches;
 use searching::SearchWords;
@@ -75,6 +76,7 @@ pub(crate) fn list_asked<'a>(alloc: Global, given: &ArgMatches<'a>) -> Result<As
         source,
         after: number_of(word_of(given, "after")),
         limit: given_number(given, "limit"),
+        csv: is_yes(word_of(given, "csv")),
     })
 }
 
@@ -111,6 +113,7 @@ pub(crate) fn find_asked<'a>(alloc: Global, given: &ArgMatches<'a>) -> Result<As
         words: search_of(alloc, &words_of(alloc, given, "WORD")?)?,
         kind,
         limit: given_number(given, "limit"),
+        csv: is_yes(word_of(given, "csv")),
     })
 }
 
@@ -165,6 +168,24 @@ pub(crate) fn show_asked<'a>(alloc: Global, given: &ArgMatches<'a>) -> Result<As
         numbers: numbers_of(alloc, &words)?,
     })
 }
+
+/// `completions`: what a shell reads. Refused where the word is no shell.
+pub(crate) fn completions_asked<'a>(
+    alloc: Global,
+    given: &ArgMatches<'a>,
+) -> Result<Asked<'a>, Refused>
+    ensures asked { IfOk result (λ a. name_of a ≡ Some (codes "completions")) }
+    ensures words { IfOk result (HasWords (Some (codes "completions", rows_of (found_of given.now)))) }
+    ensures taken { is_fit (Some (codes "completions", rows_of (found_of given.now))) ≡ true → AsksForWork result }
+{
+    let word = word_of(given, "SHELL");
+    match completions_of(word) {
+        Some(text) => Ok(Asked::Completions { text }),
+        None => Err(no_value(alloc, word, "<SHELL>", SHELLS)),
+    }
+}
+
+const SHELLS: &str = "bash, zsh";
 
 const KINDS: &str =
     "persons, families, events, places, repositories, sources, citations, entries, others";

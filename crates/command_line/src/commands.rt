@@ -7,14 +7,14 @@ ghost use Rattle.command_line.specs.Commands.{bare, program};
 ghost use Rattle.command_line.specs.Described.{rule_described, shape_described};
 
 use crate::arguments::{
-    AFTER, ALL, CHECKED, COUNT, FILE, FIRST_DAY, FOUND_LIMIT, GENERATIONS, LAST_DAY, LIMIT,
-    MAYBE_SOURCE, MAYBE_TODAY, MAYBE_TOKEN, OPTION_KIND, ORDER, PLAIN, PORT, PROGRESS, PUBLIC,
-    RECORD, RECORD_KIND, RECORDS, SEARCH, SET, SHEET_KIND, SOCIETY, SOURCE, STOP, TABLE, TODAY,
-    TOKEN, WORDS, Word, arg_of,
+    AFTER, ALL, CHECKED, COUNT, CSV, FILE, FIRST_DAY, FOUND_LIMIT, GENERATIONS, HOST, HTML,
+    LAST_DAY, LIMIT, MAYBE_SOURCE, MAYBE_TODAY, MAYBE_TOKEN, OPTION_KIND, ORDER, PLAIN, PORT,
+    PROGRESS, PUBLIC, RECORD, RECORD_KIND, RECORDS, SEARCH, SET, SHEET_KIND, SHELL, SOCIETY,
+    SOURCE, STOP, TABLE, TODAY, TOKEN, WORDS, Word, arg_of,
 };
 use crate::texts_finding::{
-    FIND_ABOUT, FIND_EXAMPLE, LIST_ABOUT, LIST_EXAMPLE, REVIEW_ABOUT, REVIEW_EXAMPLE, SHOW_ABOUT,
-    SHOW_EXAMPLE,
+    COMPLETIONS_ABOUT, COMPLETIONS_EXAMPLE, FIND_ABOUT, FIND_EXAMPLE, LIST_ABOUT, LIST_EXAMPLE,
+    REVIEW_ABOUT, REVIEW_EXAMPLE, SHOW_ABOUT, SHOW_EXAMPLE,
 };
 use crate::texts_in::{
     APPLY_ABOUT, APPLY_EXAMPLE, ENTRIES_ABOUT, ENTRIES_EXAMPLE, IMPORT_ABOUT, IMPORT_EXAMPLE,
@@ -56,9 +56,24 @@ pub(crate) struct CommandRow {
 }
 
 /// The commands, in the order of the help.
-const COMMANDS: [CommandRow; 16] = [
-    NORM, CHECK, CONVERT, INIT, APPLY, ENTRIES, IMPORT, EXPORT, SHEET, SERVE, AUDIT, DAYS, LIST,
-    FIND, SHOW, REVIEW,
+const COMMANDS: [CommandRow; 17] = [
+    NORM,
+    CHECK,
+    CONVERT,
+    INIT,
+    APPLY,
+    ENTRIES,
+    IMPORT,
+    EXPORT,
+    SHEET,
+    SERVE,
+    AUDIT,
+    DAYS,
+    LIST,
+    FIND,
+    SHOW,
+    REVIEW,
+    COMPLETIONS,
 ];
 
 const NORM: CommandRow = CommandRow {
@@ -128,7 +143,7 @@ const SERVE: CommandRow = CommandRow {
     name: "serve",
     about: SERVE_ABOUT,
     example: SERVE_EXAMPLE,
-    words: &[FILE, PORT, COUNT, TODAY],
+    words: &[FILE, PORT, COUNT, TODAY, HTML, HOST],
 };
 
 const AUDIT: CommandRow = CommandRow {
@@ -149,14 +164,14 @@ const LIST: CommandRow = CommandRow {
     name: "list",
     about: LIST_ABOUT,
     example: LIST_EXAMPLE,
-    words: &[FILE, RECORD_KIND, MAYBE_SOURCE, AFTER, LIMIT],
+    words: &[FILE, RECORD_KIND, MAYBE_SOURCE, AFTER, LIMIT, CSV],
 };
 
 const FIND: CommandRow = CommandRow {
     name: "find",
     about: FIND_ABOUT,
     example: FIND_EXAMPLE,
-    words: &[FILE, SEARCH, OPTION_KIND, FOUND_LIMIT],
+    words: &[FILE, SEARCH, OPTION_KIND, FOUND_LIMIT, CSV],
 };
 
 const SHOW: CommandRow = CommandRow {
@@ -170,7 +185,14 @@ const REVIEW: CommandRow = CommandRow {
     name: "review",
     about: REVIEW_ABOUT,
     example: REVIEW_EXAMPLE,
-    words: &[FILE],
+    words: &[FILE, CSV],
+};
+
+const COMPLETIONS: CommandRow = CommandRow {
+    name: "completions",
+    about: COMPLETIONS_ABOUT,
+    example: COMPLETIONS_EXAMPLE,
+    words: &[SHELL],
 };
 
 /// `parish` and its commands.

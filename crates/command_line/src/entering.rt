@@ -1,4 +1,4 @@
-//! Register entries: a batch under a token, or a table that is only looked over.
+//! Register entries: a batch or a table under a token, or a table that is only looked over.
 
 ghost use Rattle.std.specs.Prelude.{◌≡◌, IfOk, MatchResult, Some, ⊤, codes, option_map, true};
 ghost use Rattle.clap.specs.Words.{found_of, rows_of};
@@ -6,14 +6,15 @@ ghost use Rattle.command_line.specs.Asking.{AsksForWork, HasWords, IsMeant, is_f
 ghost use Rattle.command_line.specs.Meanings.{order_named};
 ghost use Rattle.command_line.specs.declared.tasks.Refused.TheVariants.{OutOfMemory};
 
-use crate::refusing::{no_table, no_token, no_value, unchecked};
+use crate::refusing::{no_table, no_table_token, no_token, no_value};
 use crate::tasks::{Asked, OrderName, Refused};
 use crate::words::{given_word, is_yes, number_of, order_named, word_of};
 use clap::ArgMatches;
 use std::alloc::Global;
 
-/// `entries`: a batch under a token, or with `--table` and `--check` a table that is looked over. Refused where a batch
-/// has no token or a word of tables, and where a table is not checked or the order of its dates is none.
+/// `entries`: a batch under a token, with `--table` a table under a token, or with `--check` too a table that is looked
+/// over. Refused where a batch has no token or a word of tables, and where a table that is not checked has no token or
+/// the order of its dates is none.
 pub(crate) fn entries_asked<'a>(alloc: Global, given: &ArgMatches<'a>) -> Result<Asked<'a>, Refused>
     ensures asked { IfOk result (λ a. name_of a ≡ Some (codes "entries")) }
     ensures words { IfOk result (HasWords (Some (codes "entries", rows_of (found_of given.now)))) }
@@ -21,24 +22,35 @@ pub(crate) fn entries_asked<'a>(alloc: Global, given: &ArgMatches<'a>) -> Result
 {
     let is_checked = is_yes(word_of(given, "check"));
     let dates = given_word(given, "dates");
+    let token = given_word(given, "token");
+    let file = word_of(given, "FILE");
+    let source = number_of(word_of(given, "source"));
     if is_yes(word_of(given, "table")) {
-        if !is_checked {
-            return Err(unchecked(alloc));
-        }
         let order = order_given(alloc, dates)?;
-        return Ok(Asked::CheckTable {
-            file: word_of(given, "FILE"),
-            source: number_of(word_of(given, "source")),
+        if is_checked {
+            return Ok(Asked::CheckTable {
+                file,
+                source,
+                order,
+            });
+        }
+        let Some(token) = token else {
+            return Err(no_table_token(alloc));
+        };
+        return Ok(Asked::EnterTable {
+            file,
+            source,
             order,
+            token,
         });
     }
     if is_checked {
         return Err(no_table(alloc, "--check"));
     }
-    match (given_word(given, "token"), dates) {
+    match (token, dates) {
         (Some(token), None) => Ok(Asked::Entries {
-            file: word_of(given, "FILE"),
-            source: number_of(word_of(given, "source")),
+            file,
+            source,
             token,
         }),
         (_, Some(_)) => Err(no_table(alloc, "--dates <ORDER>")),

@@ -10,6 +10,7 @@ ghost use Rattle.command_line.specs.Asking.{
   generations_in,
   is_checked,
   is_given,
+  is_html,
   is_plain,
   is_public,
   is_stop,
@@ -23,6 +24,8 @@ ghost use Rattle.command_line.specs.Commands.{program};
 ghost use Rattle.command_line.specs.Examples.{
   batch_words,
   days_words,
+  entered_table_words,
+  html_words,
   import_words,
   plain_words,
   public_plain_words,
@@ -79,6 +82,18 @@ pub fn a_checked_table_is_taken()
         ≡ Some DayFirst }
 {}
 
+/// A table that is entered is taken as the help of `entries` shows it, and has the token and the order of dates that
+/// are shown there.
+pub fn an_entered_table_is_taken()
+    ensures taken { (name : Text) → IsTaken (entered_table_words name) }
+    ensures token { (name : Text) → word_in (subcommand_of program (entered_table_words name)) (codes "token")
+        ≡ codes "page-12" }
+    ensures table { (name : Text) → is_table (subcommand_of program (entered_table_words name)) ≡ true }
+    ensures unchecked { (name : Text) → is_checked (subcommand_of program (entered_table_words name)) ≡ false }
+    ensures order { (name : Text) → order_named
+        (word_in (subcommand_of program (entered_table_words name)) (codes "dates")) ≡ Some DayFirst }
+{}
+
 /// An import is taken as the help of `import` shows it, and has the file and the token that are shown there; it says
 /// how far it is where `--progress` is given, and nowhere else.
 pub fn an_import_is_taken()
@@ -125,6 +140,12 @@ pub fn a_room_is_taken()
         → number_up_to 65535 (word_in (subcommand_of program (serve_words name)) (codes "port")) ≡ 8080 }
     ensures count { (name : Text) → number_of (word_in (subcommand_of program (serve_words name)) (codes "count"))
         ≡ 1000 }
+{}
+
+/// The same with pages of HTML.
+pub fn a_room_of_html_is_taken()
+    ensures taken { (name : Text) → IsTaken (html_words name) }
+    ensures html { (name : Text) → is_html (subcommand_of program (html_words name)) ≡ true }
 {}
 
 /// Days are taken as the help of `days` shows them, and are those from one to the other, with words.

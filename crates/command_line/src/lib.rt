@@ -15,6 +15,7 @@ mod entering;
 pub mod laws;
 mod reading;
 mod refusing;
+mod shells;
 mod showing;
 mod tasks;
 mod texts_finding;
@@ -23,4 +24,4 @@ mod texts_out;
 mod words;
 
 pub use reading::read_words;
-pub use tasks::{Asked, ListKind, OrderName, RecordKind, Refused, SetName, SheetKind};
+pub use tasks::{Asked, ListKind, OrderName, RecordKind, Refused, RoomPages, SetName, SheetKind};

@@ -27,7 +27,7 @@ ghost use Rattle.command_line.specs.Asking.{
   name_of,
 };
 
-use crate::choosing::{convert_asked, find_asked, list_asked, show_asked};
+use crate::choosing::{completions_asked, convert_asked, find_asked, list_asked, show_asked};
 use crate::commands::parish_command;
 use crate::entering::entries_asked;
 use crate::showing::{days_asked, export_asked, serve_asked, sheet_asked};
@@ -106,12 +106,22 @@ fn command_named<'a>(
         }),
         "days" => days_asked(alloc, given),
         "list" => list_asked(alloc, given),
-        "review" => Ok(Asked::Review {
-            file: word_of(given, "FILE"),
-        }),
+        "review" => Ok(review_asked(given)),
         "find" => find_asked(alloc, given),
         "show" => show_asked(alloc, given),
+        "completions" => completions_asked(alloc, given),
         _ => no_such_command(alloc),
+    }
+}
+
+/// `review`: what is doubtful.
+fn review_asked<'a>(given: &ArgMatches<'a>) -> Asked<'a>
+    ensures asked { name_of result ≡ Some (codes "review") }
+    ensures words { HasWords (Some (codes "review", rows_of (found_of given.now))) result }
+{
+    Asked::Review {
+        file: word_of(given, "FILE"),
+        csv: is_yes(word_of(given, "csv")),
     }
 }
 

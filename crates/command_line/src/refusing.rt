@@ -31,10 +31,10 @@ pub(crate) fn no_table(alloc: Global, option: &str) -> Refused {
     ))
 }
 
-/// The words are refused since a table is to be entered.
-pub(crate) fn unchecked(alloc: Global) -> Refused {
+/// The words are refused since a table that is to be entered lacks its token.
+pub(crate) fn no_table_token(alloc: Global) -> Refused {
     refused(format!(in alloc;
-        "error: the argument '--table' cannot be used without '--check'\n\n{TABLE_USAGE}\n\n{HELP}"
+        "error: the following required arguments were not provided:\n  --token <T>\n\n{TABLE_USAGE}\n\n{HELP}"
     ))
 }
 
@@ -42,6 +42,13 @@ pub(crate) fn unchecked(alloc: Global) -> Refused {
 pub(crate) fn lacking(alloc: Global, option: &str) -> Refused {
     refused(format!(in alloc;
         "error: the following required arguments were not provided:\n  {option}\n\n{EXPORT_USAGE}\n\n{HELP}"
+    ))
+}
+
+/// The words are refused since a room of text is given a name.
+pub(crate) fn no_html(alloc: Global) -> Refused {
+    refused(format!(in alloc;
+        "error: the argument '--host <NAME>' cannot be used without '--html'\n\n{HTML_USAGE}\n\n{HELP}"
     ))
 }
 
@@ -72,6 +79,9 @@ const EXPORT_USAGE: &str = "Usage: parish export [--plain] [--public --today <YY
 const BATCH_USAGE: &str = "Usage: parish entries --source <N> --token <T> <FILE>";
 
 const TABLE_USAGE: &str =
-    "Usage: parish entries --table --check --source <N> [--dates <ORDER>] <FILE>";
+    "Usage: parish entries --table <--check|--token <T>> --source <N> [--dates <ORDER>] <FILE>";
+
+const HTML_USAGE: &str =
+    "Usage: parish serve --port <P> --count <N> --today <YYYY-MM-DD> --html [--host <NAME>] <FILE>";
 
 const HELP: &str = "For more information, try '--help'.\n";

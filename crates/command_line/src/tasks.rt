@@ -35,6 +35,14 @@ pub enum Asked<'a> {
         source: u32,
         token: &'a str,
     },
+    /// `entries --table`: the rows of the table of standard input as new register entries of a source of the archive in
+    /// a file, under a token, which may be any word. Dates of three numbers are in that order, where one is given.
+    EnterTable {
+        file: &'a str,
+        source: u32,
+        order: Option<OrderName>,
+        token: &'a str,
+    },
     /// `entries --table --check`: what is wrong or doubtful in the table of standard input, whose rows would be
     /// register entries of a source of the archive in a file, on standard output. Dates of three numbers are in that
     /// order, where one is given.
@@ -84,6 +92,7 @@ pub enum Asked<'a> {
         port: u16,
         count: u32,
         today: i32,
+        pages: RoomPages,
     },
     /// `audit`: whether the archive in a file is sound.
     Audit {
@@ -98,17 +107,20 @@ pub enum Asked<'a> {
         words: bool,
     },
     /// `list`: the records of a kind, or the slips, of the archive in a file after a number, a line each, on standard
-    /// output; the entries may be those of a source. There are so many at most; all where that was not given.
+    /// output; the entries may be those of a source. There are so many at most; all where that was not given. With
+    /// `csv` there are rows of CSV in place of lines, of `find` and `review` too.
     List {
         file: &'a str,
         kind: ListKind,
         source: Option<u32>,
         after: u32,
         limit: Option<u32>,
+        csv: bool,
     },
     /// `review`: what is doubtful in the archive in a file, a line each, on standard output.
     Review {
         file: &'a str,
+        csv: bool,
     },
     /// `find`: the records, of a kind where one is given, of the archive in a file in one of whose names all words
     /// occur, a line each, on standard output. There are so many at most, 1,000 where that was not given.
@@ -117,11 +129,16 @@ pub enum Asked<'a> {
         words: SearchWords,
         kind: Option<RecordKind>,
         limit: Option<u32>,
+        csv: bool,
     },
     /// `show`: the records of these numbers of the archive in a file, each whole, on standard output.
     Show {
         file: &'a str,
         numbers: Vec<u32>,
+    },
+    /// `completions`: what a shell reads to complete words after `parish`, on standard output.
+    Completions {
+        text: &'a str,
     },
     /// `--help` or `--version`, of the program or of a command: the text for standard output.
     Text {
@@ -172,6 +189,15 @@ pub enum RecordKind {
     Entries,
     /// `others`.
     Others,
+}
+
+/// The pages of a reading room.
+#[derive(Debug, Drop)]
+pub enum RoomPages {
+    /// Text.
+    Plain,
+    /// HTML. The room may be asked for by that name, beside those of this machine.
+    Html(Option<String>),
 }
 
 /// The character sets that a file may be in.

@@ -6,8 +6,11 @@ pub(crate) const LIST_EXAMPLE: &str = "\
 KIND is persons, families, events, places, repositories, sources, citations,
 entries, others or slips. Each record is a line, by number: the number and what
 tells it from others. A slip says who was merged into whom, and if that was
-undone. With --source there are only the entries of that source. The living are
-not hidden: the archive is not changed, and nothing is for visitors.
+undone. With --source there are only the entries of that source. With --csv there
+are rows for a spreadsheet: the number and the description; with --source too the
+columns of a page that `entries --table` reads. A cell that would be taken for a
+formula has an apostrophe before it. The living are not hidden: the archive is not
+changed, and nothing is for visitors.
 
 Refusals:
   40 BadStored     what is stored is no record: somebody else wrote FILE
@@ -18,7 +21,7 @@ docs/REFUSALS.md, beside the source of parish, says what to do about each.
 
 Examples:
   parish list ashby.db persons --after 100 --limit 50
-  parish list ashby.db entries --source 3";
+  parish list ashby.db entries --source 3 --csv";
 
 pub(crate) const FIND_ABOUT: &str = "Find the records with a name that has some words";
 
@@ -28,8 +31,9 @@ a word of it: names of persons, of those whom register entries mention, of place
 and repositories, and titles of sources. Case, marks and how letters are composed
 make no difference: muller finds Müller, neil O'Neil. A line is that of `list`,
 and so are the kinds of --kind, without slips. Where records are left out, a last line says how
-many: `and 37 more`. A WORD without letters and digits is refused. The living are
-not hidden: the archive is not changed, and nothing is for visitors.
+many: `and 37 more`. A WORD without letters and digits is refused. With --csv the
+lines are rows for a spreadsheet. The living are not hidden: the archive is not
+changed, and nothing is for visitors.
 
 Refusals:
   40 BadStored     what is stored is no record: somebody else wrote FILE
@@ -70,8 +74,8 @@ families of nobody, the mentions that are not linked although one of that name o
 that page is, the children older than a parent, the events before the birth or
 after the burial of their person, and the register entries with two mentions of
 one person. It is for the eyes: what is listed may be right, and what is wrong
-may not be listed. The living are not hidden: the archive is not changed, and
-nothing is for visitors.
+may not be listed. With --csv the lines are rows for a spreadsheet. The living are
+not hidden: the archive is not changed, and nothing is for visitors.
 
 Refusals:
   40 BadStored     what is stored is no record: somebody else wrote FILE
@@ -82,3 +86,20 @@ docs/REFUSALS.md, beside the source of parish, says what to do about each.
 
 Example:
   parish review ashby.db";
+
+pub(crate) const COMPLETIONS_ABOUT: &str =
+    "Print what a shell reads to complete words after parish";
+
+pub(crate) const COMPLETIONS_EXAMPLE: &str = "\
+SHELL is bash or zsh. The text has each command, its options, and the values of
+some of them. Packages have it in place; it is for parish from a tarball or built
+from its source. No archive is opened.
+
+Refusals:
+  95 WriteFailed   standard output could not be written
+  1
+docs/REFUSALS.md, beside the source of parish, says what to do about each.
+
+Examples:
+  parish completions bash > ~/.local/share/bash-completion/completions/parish
+  parish completions zsh > ~/.zsh/functions/_parish";

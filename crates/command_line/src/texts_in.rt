@@ -102,17 +102,22 @@ Refusals, those of a row with `at row <n>`, counted from 1:
 docs/REFUSALS.md, beside the source of parish, says when each comes and what to
 do; so it does of the others: 1, 40, 80, 82, 83, 94 and 95.
 
-With --table and --check the input is a table as a spreadsheet writes it, with a
-header row, and nothing is entered: standard output gets a line for all that would
-be refused or is doubtful, row <n>: <no.> <Name>: <column>: <cell>, and at the end
-`<n> rows, <m> wrong, <k> doubtful`; the status is 1 where a row is wrong. Columns
-are kind, page, item, date, place, text and roles, like godparent or godparent 2.
-There, 97 is a column that is not known, 98 one that is missing; no token is
-needed. docs/FORMATS.md says what a cell may be.
+With --table the input is a table as a spreadsheet writes it, with a header row.
+Columns are kind, page, item, date, place, text and roles, like godparent or
+godparent 2. A place may be a path, as `Ashby, Kent`. Rows have the numbers that
+the sheet shows, and 97 is a column that is not known, 98 one that is missing.
+Standard error names the cell that is refused, and says how many dates have no
+days but words. docs/FORMATS.md says what a cell may be.
+
+With --table and --check nothing is entered, and no token is needed: standard
+output gets a line for all that would be refused or is doubtful,
+row <n>: <no.> <Name>: <column>: <cell>, and at the end
+`<n> rows, <m> wrong, <k> doubtful`; the status is 1 where a row is wrong.
 
 Examples:
   parish entries ashby.db --source 3 --token page-12 < page12.csv
-  parish entries ashby.db --table --check --source 3 --dates dmy < page12.csv";
+  parish entries ashby.db --table --check --source 3 --dates dmy < page12.csv
+  parish entries ashby.db --table --source 3 --dates dmy --token page-12 < page12.csv";
 
 pub(crate) const IMPORT_ABOUT: &str = "Take the GEDCOM file of standard input into the archive";
 

@@ -106,7 +106,8 @@ pub(crate) const SERVE_ABOUT: &str = "Show the archive to the browsers of this m
 
 pub(crate) const SERVE_EXAMPLE: &str = "\
 The archive is read once, and FILE is left alone then. What may be shown of it on
-the day of --today, as docs/LIVING.md tells, is given to each visitor who asks.
+the day of --today, as docs/LIVING.md tells, is given to each visitor who asks: as
+text, or with --html as pages of HTML with links and a search.
 `listening on 127.0.0.1:<port>` is printed, and N visitors are answered one after
 the other; then it ends. The archive is not changed.
 
@@ -119,7 +120,8 @@ Refusals:
 docs/REFUSALS.md, beside the source of parish, says what to do about each.
 
 Example:
-  parish serve ashby.db --port 8080 --count 1000 --today 2024-01-01";
+  parish serve ashby.db --port 8080 --count 1000 --today 2024-01-01
+  parish serve ashby.db --port 8080 --count 1000 --today 2024-01-01 --html";
 
 pub(crate) const AUDIT_ABOUT: &str = "Check that the archive is sound";
 

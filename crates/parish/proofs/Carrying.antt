@@ -35,7 +35,7 @@ use Rattle.devices.specs.declared.device.Device as device
 use Rattle.parish.specs.Doing.{Does, DoesTask, DoesUnder, Finished, IsNoToken}
 use Rattle.parish.specs.Lists.{find_task, list_task, review_task}
 use Rattle.parish.specs.Rows.{apply_task}
-use Rattle.parish.specs.Tables.{table_task}
+use Rattle.parish.specs.Tables.{entering_task, table_task}
 use Rattle.parish.specs.Runs.{IsRun}
 use Rattle.parish.specs.declared.visits.Visits.{Visits}
 use Rattle.archive_runs.specs.Runs.{Carries, Run, Stands}
@@ -122,6 +122,8 @@ module _ {R W F D S : Type 0} {g : disk.Ghosts D} (reader : read.Ghosts R) (read
           let t = apply_task stops in ((Some t, refl, performs t did), tt)
       is_run (asked.Entries file source token) did =
           let t = task.Entries token.now source in ((Some t, refl, under token.now t did), tt)
+      is_run (asked.EnterTable file source order token) did =
+          let t = entering_task token.now source order in ((Some t, refl, under token.now t did), tt)
       is_run (asked.CheckTable file source order) did =
           let t = table_task source order in ((Some t, refl, performs t did), tt)
       is_run (asked.Import file token progress) did =
@@ -134,17 +136,18 @@ module _ {R W F D S : Type 0} {g : disk.Ghosts D} (reader : read.Ghosts R) (read
           let t = task.ExportPublicPlain today in ((Some t, refl, performs t did), tt)
       is_run (asked.Sheet file which number generations today) did =
           let t = task.Sheet did.0 today in ((Some t, (did.0, did.1, refl), performs t did.2), tt)
-      is_run (asked.Serve file port count today) did =
+      is_run (asked.Serve file port count today pages) did =
           let t = task.Library today in ((Some t, refl, performed t did.0 did.1), tt)
       is_run (asked.Audit file) did = ((Some task.Audit, refl, performs task.Audit did), tt)
       is_run (asked.Days file first last words) did =
           let t = task.Days first last words in ((Some t, refl, performs t did), tt)
-      is_run (asked.List file which source after limit) did =
-          let t = list_task which source after limit in ((Some t, refl, performs t did), tt)
-      is_run (asked.Find file words which limit) did =
-          let t = find_task words which limit in ((Some t, refl, performs t did), tt)
+      is_run (asked.List file which source after limit csv) did =
+          let t = list_task which source after limit csv in ((Some t, refl, performs t did), tt)
+      is_run (asked.Find file words which limit csv) did =
+          let t = find_task words which limit csv in ((Some t, refl, performs t did), tt)
       is_run (asked.Show file numbers) did =
           let t = task.Show numbers in ((Some t, refl, performs t did), tt)
-      is_run (asked.Review file) did =
-          ((Some review_task, refl, performs review_task did), tt)
+      is_run (asked.Review file csv) did =
+          let t = review_task csv in ((Some t, refl, performs t did), tt)
+      is_run (asked.Completions text) did = ((None, refl, idles [] (inl did.2.0)), tt)
       is_run (asked.Text text) did = ((None, refl, idles [] (inl did.2.0)), tt)

@@ -34,7 +34,7 @@ use Rattle.parish.specs.Doing.{Does, DoesUnder, Finished, tells}
 use Rattle.parish.specs.Lists.{find_task, list_task, review_task}
 use Rattle.parish.specs.Rooms.{VisitsEnd}
 use Rattle.parish.specs.Rows.{apply_task}
-use Rattle.parish.specs.Tables.{table_task}
+use Rattle.parish.specs.Tables.{entering_task, table_task}
 use Rattle.parish.specs.declared.visits.Visits.{Visits}
 use Rattle.reading_room.specs.Listening.{listening_line}
 use Rattle.record_text.specs.declared.refusal.RefusalKind.TheVariants.{WriteFailed}
@@ -85,6 +85,8 @@ module _ {D S R W F : Type 0} {g : disk.Ghosts D} (reader : read.Ghosts R) (read
       file_at_most_1 (apply_task stops) did.0 did.1
   does_at_most_1 (asked.Entries file source token) did =
       under_at_most_1 token.now (task.Entries token.now source) did
+  does_at_most_1 (asked.EnterTable file source order token) did =
+      under_at_most_1 token.now (entering_task token.now source order) did
   does_at_most_1 (asked.CheckTable file source order) did =
       file_at_most_1 (table_task source order) did.0 did.1
   does_at_most_1 (asked.Import file token progress) did =
@@ -99,20 +101,21 @@ module _ {D S R W F : Type 0} {g : disk.Ghosts D} (reader : read.Ghosts R) (read
       file_at_most_1 (task.ExportPublicPlain today) did.0 did.1
   does_at_most_1 (asked.Sheet file which number generations today) did =
       file_at_most_1 (task.Sheet did.0 today) did.2.0 did.2.1
-  does_at_most_1 (asked.Serve file port count today) did =
+  does_at_most_1 (asked.Serve file port count today pages) did =
       file_at_most_1 (task.Library today) did.0 did.1
   does_at_most_1 (asked.Audit file) did =
       file_at_most_1 task.Audit did.0 did.1
   does_at_most_1 (asked.Days file first last words) did =
       file_at_most_1 (task.Days first last words) did.0 did.1
-  does_at_most_1 (asked.List file which source after limit) did =
-      file_at_most_1 (list_task which source after limit) did.0 did.1
-  does_at_most_1 (asked.Find file words which limit) did =
-      file_at_most_1 (find_task words which limit) did.0 did.1
+  does_at_most_1 (asked.List file which source after limit csv) did =
+      file_at_most_1 (list_task which source after limit csv) did.0 did.1
+  does_at_most_1 (asked.Find file words which limit csv) did =
+      file_at_most_1 (find_task words which limit csv) did.0 did.1
   does_at_most_1 (asked.Show file numbers) did =
       file_at_most_1 (task.Show numbers) did.0 did.1
-  does_at_most_1 (asked.Review file) did =
-      file_at_most_1 review_task did.0 did.1
+  does_at_most_1 (asked.Review file csv) did =
+      file_at_most_1 (review_task csv) did.0 did.1
+  does_at_most_1 (asked.Completions text) did = finished_at_most_1 _ did.0
   does_at_most_1 (asked.Text text) did = finished_at_most_1 _ did.0
 
   -- ---- what is done says nothing on the faults, but for rows and the progress of an import
@@ -150,6 +153,7 @@ module _ {D S R W F : Type 0} {g : disk.Ghosts D} (reader : read.Ghosts R) (read
   does_quietly (asked.Apply file stops) did is zero = absurd (true≢false is)
   does_quietly (asked.Entries file source token) did is zero =
       under_quietly token.now (task.Entries token.now source) did refl zero
+  does_quietly (asked.EnterTable file source order token) did is zero = absurd (true≢false is)
   does_quietly (asked.CheckTable file source order) did is zero =
       file_quietly (table_task source order) did.0 did.1 refl zero
   does_quietly (asked.Import file token progress) did is zero =
@@ -162,20 +166,21 @@ module _ {D S R W F : Type 0} {g : disk.Ghosts D} (reader : read.Ghosts R) (read
   does_quietly (asked.ExportPublicPlain file today) did is zero = absurd (true≢false is)
   does_quietly (asked.Sheet file which number generations today) did is zero =
       file_quietly (task.Sheet did.0 today) did.2.0 did.2.1 refl zero
-  does_quietly (asked.Serve file port count today) did is zero =
+  does_quietly (asked.Serve file port count today pages) did is zero =
       file_quietly (task.Library today) did.0 did.1 refl zero
   does_quietly (asked.Audit file) did is zero =
       file_quietly task.Audit did.0 did.1 refl zero
   does_quietly (asked.Days file first last words) did is zero =
       file_quietly (task.Days first last words) did.0 did.1 refl zero
-  does_quietly (asked.List file which source after limit) did is zero =
-      file_quietly (list_task which source after limit) did.0 did.1 refl zero
-  does_quietly (asked.Find file words which limit) did is zero =
-      file_quietly (find_task words which limit) did.0 did.1 refl zero
+  does_quietly (asked.List file which source after limit csv) did is zero =
+      file_quietly (list_task which source after limit csv) did.0 did.1 refl zero
+  does_quietly (asked.Find file words which limit csv) did is zero =
+      file_quietly (find_task words which limit csv) did.0 did.1 refl zero
   does_quietly (asked.Show file numbers) did is zero =
       file_quietly (task.Show numbers) did.0 did.1 refl zero
-  does_quietly (asked.Review file) did is zero =
-      file_quietly review_task did.0 did.1 refl zero
+  does_quietly (asked.Review file csv) did is zero =
+      file_quietly (review_task csv) did.0 did.1 refl zero
+  does_quietly (asked.Completions text) did is zero = finished_quietly _ did.0 zero
   does_quietly (asked.Text text) did is zero = finished_quietly _ did.0 zero
 
 -- ---- a room, once the file is closed

@@ -32,8 +32,10 @@ use Rattle.command_line.specs.declared.tasks.Asked.TheVariants.{
   Check,
   CheckAll,
   CheckTable,
+  Completions,
   Convert,
   Days,
+  EnterTable,
   Entries,
   Export,
   ExportPlain,
@@ -59,7 +61,7 @@ use Rattle.parish.specs.Ends.{Checks, ChecksAll, Normalises, Shows}
 use Rattle.parish.specs.Lists.{find_task, list_task, review_task}
 use Rattle.parish.specs.Rooms.{IsRoomOf, IsSheetOf}
 use Rattle.parish.specs.Rows.{apply_task}
-use Rattle.parish.specs.Tables.{table_task}
+use Rattle.parish.specs.Tables.{entering_task, table_task}
 use Rattle.parish.specs.declared.visits.Visits.{Visits}
 use Rattle.receipts.specs.Tokens.{IsToken}
 use Rattle.record_text.specs.declared.refusal.RefusalKind.{RefusalKind}
@@ -74,6 +76,7 @@ use Rattle.tasks.specs.declared.task.Task.TheVariants as task
 abbrev pub tells : Asked → Bool
 tells (Apply file stops) = true
 tells (Convert from) = true
+tells (EnterTable file source order token) = true
 tells (ExportPlain file) = true
 tells (ExportPublicPlain file today) = true
 tells (Import file token progress) = progress
@@ -145,6 +148,7 @@ module _ {D S R W F : Type 0} {g : disk.Ghosts D} (reader : read.Ghosts R) (read
   Does (Init file society) = Finished (Makes image left society.now) × IsUnread × IsUnwritten × (room ≡ None)
   Does (Apply file stops) = DoesTask (apply_task stops)
   Does (Entries file source token) = DoesUnder token.now (task.Entries token.now source)
+  Does (EnterTable file source order token) = DoesUnder token.now (entering_task token.now source order)
   Does (CheckTable file source order) = DoesTask (table_task source order)
   Does (Import file token progress) = DoesUnder token.now (task.Import token.now progress)
   Does (Export file) = DoesTask task.Export
@@ -153,15 +157,16 @@ module _ {D S R W F : Type 0} {g : disk.Ghosts D} (reader : read.Ghosts R) (read
   Does (ExportPublicPlain file today) = DoesTask (task.ExportPublicPlain today)
   Does (Sheet file which number generations today) = (page : Page) × IsSheetOf which number generations page
       × DoesTask (task.Sheet page today)
-  Does (Serve file port count today) = (shown : Option Content)
+  Does (Serve file port count today pages) = (shown : Option Content)
       × EndsOnFile reader reads writer writes faulter fails image (task.Library today) x y status shown left
-      × IsRoomOf port count shown room
+      × IsRoomOf port count pages shown room
   Does (Audit file) = DoesTask task.Audit
   Does (Days file first last words) = DoesTask (task.Days first last words)
-  Does (ListAsked file which source after limit) = DoesTask (list_task which source after limit)
-  Does (Find file words which limit) = DoesTask (find_task words which limit)
+  Does (ListAsked file which source after limit csv) = DoesTask (list_task which source after limit csv)
+  Does (Find file words which limit csv) = DoesTask (find_task words which limit csv)
   Does (Show file numbers) = DoesTask (task.Show numbers)
-  Does (Review file) = DoesTask review_task
+  Does (Review file csv) = DoesTask (review_task csv)
+  Does (Completions text) = Prints text.now × IsUnread × OpensNothing
   Does (Text text) = Prints (string_bytes text) × IsUnread × OpensNothing
 
   -- no memory was found to read the words, and nothing is done

@@ -6,6 +6,7 @@ use Rattle.std.specs.Prelude.{
   ◌∷◌,
   [],
   ℕ,
+  false,
   List,
   Option,
   Some,
@@ -18,7 +19,7 @@ use Rattle.std.specs.Prelude.{
 use Rattle.std.specs.Fmt.{decimal}
 use Rattle.std.specs.Io.KnownBytes.{Appends, Keeps}
 use Rattle.clap.specs.Words.{subcommand_of}
-use Rattle.command_line.specs.Asking.{IsTaken, command_named, is_plain, is_told}
+use Rattle.command_line.specs.Asking.{IsTaken, command_named, is_checked, is_plain, is_table, is_told}
 use Rattle.command_line.specs.Commands.{program}
 use Rattle.devices.specs.Devices.{AppendsBeginning}
 use Rattle.archive_input.specs.Faults.{refusal_of}
@@ -43,6 +44,11 @@ AreOf words name = IsTaken words × (command_named words ≡ Some name)
 -- the words are those of an import that says how far it is
 abbrev pub AreOfToldImport : List (List ℕ) → Type 0
 AreOfToldImport words = AreOf words (codes "import") × (is_told (subcommand_of program words) ≡ true)
+
+-- the words are those of a table that is entered
+abbrev pub AreOfEnteredTable : List (List ℕ) → Type 0
+AreOfEnteredTable words = AreOf words (codes "entries") × (is_table (subcommand_of program words) ≡ true)
+    × (is_checked (subcommand_of program words) ≡ false)
 
 -- the words are those of an export without tags of our own
 abbrev pub AreOfPlainExport : List (List ℕ) → Type 0

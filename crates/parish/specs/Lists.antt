@@ -1,11 +1,11 @@
 -- What `list`, `find` and `review` ask for, as a task on an open archive has them.
-use Rattle.std.specs.Prelude.{ℕ, List, [], Option, Some, None, false, option_map, true, unwrap_or}
-use Rattle.archive_lists.specs.declared.listed.Listed.{Listed}
-use Rattle.archive_lists.specs.declared.listed.Listed.TheVariants as listed
+use Rattle.std.specs.Prelude.{ℕ, Bool, List, [], Option, Some, None, false, option_map, true, unwrap_or}
 use Rattle.command_line.specs.declared.tasks.ListKind.{ListKind}
 use Rattle.command_line.specs.declared.tasks.ListKind.TheVariants as listing
 use Rattle.command_line.specs.declared.tasks.RecordKind.{RecordKind}
 use Rattle.command_line.specs.declared.tasks.RecordKind.TheVariants as asked
+use Rattle.record_lists.specs.declared.listed.Chosen.{Chosen}
+use Rattle.record_lists.specs.declared.listed.Chosen.TheVariants as chosen
 use Rattle.searching.specs.declared.wanted.Kind.{Kind}
 use Rattle.searching.specs.declared.wanted.Kind.TheVariants as kind
 use Rattle.tasks.specs.declared.task.Task.{Task}
@@ -28,9 +28,9 @@ limit_of None = 18446744073709551615
 limit_of (Some limit) = limit
 
 -- the records of a kind, of a source where one is given
-abbrev pub records_listed : RecordKind → Option ℕ → ℕ → ℕ → Listed
-records_listed which source after limit =
-    listed.Records (record {
+abbrev pub records_chosen : RecordKind → Option ℕ → ℕ → ℕ → Chosen
+records_chosen which source after limit =
+    chosen.Records (record {
       wanted = record { kind = Some (kind_of which); source = source; words = [] };
       after = after;
       limit = limit;
@@ -38,24 +38,29 @@ records_listed which source after limit =
     })
 
 -- the slips, or the records of a kind
-abbrev pub listed_of : ListKind → Option ℕ → ℕ → ℕ → Listed
-listed_of listing.Slips source after limit = listed.Slips after limit
-listed_of (listing.Records which) source after limit = records_listed which source after limit
+abbrev pub chosen_of : ListKind → Option ℕ → ℕ → ℕ → Chosen
+chosen_of listing.Slips source after limit = chosen.Slips after limit
+chosen_of (listing.Records which) source after limit = records_chosen which source after limit
 
-abbrev pub list_task : ListKind → Option ℕ → ℕ → Option ℕ → Task
-list_task which source after limit = task.List (listed_of which source after (limit_of limit))
+-- as rows of CSV where these are asked for
+abbrev pub list_task : ListKind → Option ℕ → ℕ → Option ℕ → Bool → Task
+list_task which source after limit csv =
+    task.List (record { of = chosen_of which source after (limit_of limit); is_csv = csv })
 
 -- the records, of a kind where one is given, with a name in which the words occur: 1,000 without a limit, and how many
 -- are left out
-abbrev pub find_task : List (List ℕ) → Option RecordKind → Option ℕ → Task
-find_task words which limit =
-    task.List (listed.Records (record {
+abbrev pub names_chosen : List (List ℕ) → Option RecordKind → Option ℕ → Chosen
+names_chosen words which limit =
+    chosen.Records (record {
       wanted = record { kind = option_map kind_of which; source = None; words = words };
       after = 0;
       limit = unwrap_or limit 1000;
       counts_others = true;
-    }))
+    })
+
+abbrev pub find_task : List (List ℕ) → Option RecordKind → Option ℕ → Bool → Task
+find_task words which limit csv = task.List (record { of = names_chosen words which limit; is_csv = csv })
 
 -- what is doubtful
-abbrev pub review_task : Task
-review_task = task.List listed.Doubts
+abbrev pub review_task : Bool → Task
+review_task csv = task.List (record { of = chosen.Doubts; is_csv = csv })

@@ -2,6 +2,7 @@
 use Rattle.std.specs.Prelude.{◌≡◌, ◌≤◌, ℕ, List, Option, None, Some}
 use Rattle.std.specs.Io.KnownBytes.{Appends}
 use Rattle.archive_state.specs.Content.{Content}
+use Rattle.command_line.specs.declared.tasks.RoomPages.{RoomPages}
 use Rattle.command_line.specs.declared.tasks.SheetKind.{SheetKind}
 use Rattle.command_line.specs.declared.tasks.SheetKind.TheVariants as kind
 use Rattle.devices.specs.Devices.{AppendsBeginning}
@@ -20,12 +21,13 @@ IsSheetOf kind.Register number generations (sheet.Register n) = n ≡ number
 IsSheetOf kind.Pedigree number generations (sheet.Pedigree n few) = (n ≡ number) × (few.count ≡ generations)
 IsSheetOf _ number generations _ = ⊥
 
--- a room with what is shown, for so many visitors at that port; none where nothing is shown
-abbrev pub IsRoomOf : ℕ → ℕ → Option Content → Option Visits → Type 0
-IsRoomOf port count None None = Unit {0}
-IsRoomOf port count (Some shown) (Some visits) = (visits.port ≡ port) × (visits.count ≡ count) × (visits.room ≡ shown)
-IsRoomOf port count None (Some visits) = ⊥
-IsRoomOf port count (Some shown) None = ⊥
+-- a room with what is shown in pages of that kind, for so many visitors at that port; none where nothing is shown
+abbrev pub IsRoomOf : ℕ → ℕ → RoomPages → Option Content → Option Visits → Type 0
+IsRoomOf port count pages None None = Unit {0}
+IsRoomOf port count pages (Some shown) (Some visits) = (visits.port ≡ port) × (visits.count ≡ count)
+    × (visits.shelf ≡ shown) × (visits.pages ≡ pages)
+IsRoomOf port count pages None (Some visits) = ⊥
+IsRoomOf port count pages (Some shown) None = ⊥
 
 -- 0 where it was said that the room listens; 1 where a prefix of that was said at the least, for a reason; the
 -- writer is blamed only where it failed in this call, by its count

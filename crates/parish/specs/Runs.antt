@@ -9,6 +9,7 @@ use Rattle.command_line.specs.declared.tasks.Asked.TheVariants.{
   Audit,
   CheckTable,
   Days,
+  EnterTable,
   Entries,
   Export,
   ExportPlain,
@@ -26,7 +27,7 @@ use Rattle.command_line.specs.declared.tasks.Asked.TheVariants.{
 use Rattle.parish.specs.Lists.{find_task, list_task, review_task}
 use Rattle.parish.specs.Rooms.{IsSheetOf}
 use Rattle.parish.specs.Rows.{apply_task}
-use Rattle.parish.specs.Tables.{table_task}
+use Rattle.parish.specs.Tables.{entering_task, table_task}
 use Rattle.archive_runs.specs.Runs.{Carries, Stands}
 use Rattle.archive_runs.specs.Beginning.{idle}
 use Rattle.archive_output.specs.declared.sheet.Sheet.{Sheet as Page}
@@ -37,6 +38,7 @@ use Rattle.tasks.specs.declared.task.Task.TheVariants as task
 abbrev pub HasTask : Asked → Option Task → Type 0
 HasTask (Apply file stops) t = t ≡ Some (apply_task stops)
 HasTask (Entries file source token) t = t ≡ Some (task.Entries token.now source)
+HasTask (EnterTable file source order token) t = t ≡ Some (entering_task token.now source order)
 HasTask (CheckTable file source order) t = t ≡ Some (table_task source order)
 HasTask (Import file token progress) t = t ≡ Some (task.Import token.now progress)
 HasTask (Export file) t = t ≡ Some task.Export
@@ -45,13 +47,13 @@ HasTask (ExportPlain file) t = t ≡ Some task.ExportPlain
 HasTask (ExportPublicPlain file today) t = t ≡ Some (task.ExportPublicPlain today)
 HasTask (Sheet file which number generations today) t = (page : Page) × IsSheetOf which number generations page
     × (t ≡ Some (task.Sheet page today))
-HasTask (Serve file port count today) t = t ≡ Some (task.Library today)
+HasTask (Serve file port count today pages) t = t ≡ Some (task.Library today)
 HasTask (Audit file) t = t ≡ Some task.Audit
 HasTask (Days file first last words) t = t ≡ Some (task.Days first last words)
-HasTask (ListAsked file which source after limit) t = t ≡ Some (list_task which source after limit)
-HasTask (Find file words which limit) t = t ≡ Some (find_task words which limit)
+HasTask (ListAsked file which source after limit csv) t = t ≡ Some (list_task which source after limit csv)
+HasTask (Find file words which limit csv) t = t ≡ Some (find_task words which limit csv)
 HasTask (Show file numbers) t = t ≡ Some (task.Show numbers)
-HasTask (Review file) t = t ≡ Some review_task
+HasTask (Review file csv) t = t ≡ Some (review_task csv)
 HasTask _ t = t ≡ None
 
 -- a run over the two before, with this input, which wrote this and ended so, leaves the two after

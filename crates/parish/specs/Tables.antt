@@ -1,5 +1,5 @@
--- A table that is checked, as a task on an open archive has it.
-use Rattle.std.specs.Prelude.{ℕ, Option, option_map}
+-- A table that is checked or entered, as a task on an open archive has it.
+use Rattle.std.specs.Prelude.{ℕ, List, Option, option_map}
 use Rattle.command_line.specs.declared.tasks.OrderName.{OrderName}
 use Rattle.command_line.specs.declared.tasks.OrderName.TheVariants as named
 use Rattle.page_entries.specs.declared.dates.DateOrder.{DateOrder}
@@ -13,3 +13,7 @@ order_of named.MonthFirst = order.MonthFirst
 
 abbrev pub table_task : ℕ → Option OrderName → Task
 table_task source dates = task.CheckTable source (option_map order_of dates)
+
+-- under a token
+abbrev pub entering_task : List ℕ → ℕ → Option OrderName → Task
+entering_task token source dates = task.EnterTable token source (option_map order_of dates)

@@ -6,14 +6,17 @@ ghost use Rattle.archive_state.specs.Content.{Content};
 ghost use Rattle.archive_runs.specs.Tasks.{EndsOnFile};
 ghost use Rattle.parish.specs.Doing.{DoesTask, DoesUnder, Makes};
 ghost use Rattle.parish.specs.Rooms.{IsRoomOf};
+ghost use Rattle.parish.specs.Tables.{entering_task};
 ghost use Rattle.receipts.specs.Tokens.{IsToken};
 ghost use Rattle.record_text.specs.declared.refusal.RefusalKind.TheVariants.{BadToken, OutOfMemory};
 ghost use Rattle.tasks.specs.Status.{Finishes, Outcome};
 ghost use Rattle.tasks.specs.declared.task.Task.TheVariants as task;
 
+use crate::tables::entering_task;
 use crate::visits::{Visits, room_of};
 use archive_files::{Left, LeftFile, Openable, init};
 use archive_runs::perform_on_file;
+use command_line::{OrderName, RoomPages};
 use devices::Device;
 use receipts::Token;
 use record_text::RefusalKind;
@@ -92,6 +95,36 @@ pub(crate) fn enter<S: Openable, R: Read + Device, W: Write + Device, F: FaultSt
     }
 }
 
+/// `entries --table`: enters the table of the input, under a token. 93: the word is no token; no file is opened.
+pub(crate) fn enter_table<S: Openable, R: Read + Device, W: Write + Device, F: FaultStream>(
+    rt: &HostRuntime,
+    file: &str,
+    token: &str,
+    source: u32,
+    dates: Option<OrderName>,
+    start: S,
+    input: &mut R,
+    output: &mut W,
+    faults: &mut F,
+) -> Ended<S>
+    ensures { DoesUnder R.Read R.Device W.Write W.Device F.Write F.Device (image_at S.Start) result.0
+        (record { input = input.old; output = output.old; faults = faults.old })
+        (record { input = input.new; output = output.new; faults = faults.new }) result.1 result.2 token.now
+        (entering_task token.now source dates) }
+{
+    match token_given(rt.alloc(), token) {
+        Ok(token) => {
+            let task = entering_task(token, source, dates);
+            do_task(rt, file, task, start, input, output, faults)
+        }
+        Err(kind) => (
+            status_of(Err(placeless(kind)), faults),
+            Left::Untouched(start),
+            None,
+        ),
+    }
+}
+
 /// `import`: takes in the file of the input, under a token. 93: the word is no token; no file is opened.
 pub(crate) fn take_in<S: Openable, R: Read + Device, W: Write + Device, F: FaultStream>(
     rt: &HostRuntime,
@@ -141,13 +174,15 @@ fn token_given(alloc: Global, word: &str) -> Result<Token, RefusalKind>
     }
 }
 
-/// `serve`: the room that is to be served, with what may be shown of the archive in a file on a day.
+/// `serve`: the room that is to be served, with what may be shown of the archive in a file on a day, in pages of that
+/// kind.
 pub(crate) fn open_room<S: Openable, R: Read + Device, W: Write + Device, F: FaultStream>(
     rt: &HostRuntime,
     file: &str,
     port: u16,
     count: u32,
     today: i32,
+    pages: RoomPages,
     start: S,
     input: &mut R,
     output: &mut W,
@@ -157,9 +192,9 @@ pub(crate) fn open_room<S: Openable, R: Read + Device, W: Write + Device, F: Fau
         (task.Library today)
         (record { input = input.old; output = output.old; faults = faults.old })
         (record { input = input.new; output = output.new; faults = faults.new }) result.0 shown result.1
-        × IsRoomOf port count shown result.2 }
+        × IsRoomOf port count pages shown result.2 }
 {
     let task = Task::Library { today };
     let (status, shown, left) = perform_on_file(rt, file, start, task, input, output, faults);
-    (status, left, room_of(shown, port, count))
+    (status, left, room_of(shown, pages, port, count))
 }

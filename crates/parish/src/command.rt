@@ -22,7 +22,14 @@ ghost use Rattle.archive_files.specs.DatabaseOpening.{IsUntouched};
 ghost use Rattle.devices.specs.Devices.{Rose};
 ghost use Rattle.record_text.specs.declared.refusal.RefusalKind.TheVariants as refusal;
 ghost use Rattle.parish.specs.Doing.{Does, DoesWords, IsWanting, RefusesWords};
-ghost use Rattle.parish.specs.Ends.{AreOf, AreOfPlainExport, AreOfToldImport, Shows, not_utf8_text};
+ghost use Rattle.parish.specs.Ends.{
+  AreOf,
+  AreOfEnteredTable,
+  AreOfPlainExport,
+  AreOfToldImport,
+  Shows,
+  not_utf8_text,
+};
 ghost use Rattle.parish.specs.Runs.{IsRunOf};
 ghost use Rattle.parish.specs.Rows.{apply_task};
 ghost use Rattle.archive_runs.specs.Leaving.{FindsAfter};
@@ -30,15 +37,14 @@ ghost use Rattle.archive_runs.specs.Seeing.{IsSeen, IsSeenAs};
 ghost use Rattle.tasks.specs.Faults.{IsReported};
 ghost use Rattle.tasks.specs.Status.{Finishes, placeless_text};
 
-use crate::archives::{Ended, do_task, enter, make, open_room, take_in};
+use crate::archives::{Ended, do_task, enter, enter_table, make, open_room, take_in};
 use crate::converting::convert;
 use crate::files::{check, check_all, norm};
 use crate::laws::what_is_asked_for_loses_nothing;
-use crate::lists::{find_task, list_task};
+use crate::lists::{find_task, list_task, review_task};
 use crate::tables::table_task;
 use crate::visits::sheet_of;
 use archive_files::{Left, Openable};
-use archive_lists::Listed;
 use archive_output::write_text;
 use command_line::{Asked, Refused, read_words};
 use devices::Device;
@@ -57,12 +63,12 @@ const WORDS_REFUSED: u8 = 2;
 /// serves the room then.
 ///
 /// Results go to `output`, a refusal goes to `faults` as one line, and so does what is wrong with a row of `apply` that
-/// is refused, what `audit` finds wrong, with `--progress` how far an import is, what `convert` did, and what an export
-/// with `--plain` leaves out. Where `faults` fails too, only the status says so. Where the words are refused nothing is
-/// read, and nothing written elsewhere: what is not taken is answered on `output` only where it asks for help or for
-/// the version. Words that are taken are never refused: what they name is done, with 0, or 1 and a reason. Of each
-/// archive that the file held nothing is lost, however much was seen of the output and of the end, as soon as the file
-/// is closed, or given up in a stop.
+/// is refused, what `audit` finds wrong, with `--progress` how far an import is, what `convert` did, what an export
+/// with `--plain` leaves out, and how many dates of a table that is entered are only words. Where `faults` fails too,
+/// only the status says so. Where the words are refused nothing is read, and nothing written elsewhere: what is not
+/// taken is answered on `output` only where it asks for help or for the version. Words that are taken are never
+/// refused: what they name is done, with 0, or 1 and a reason. Of each archive that the file held nothing is lost,
+/// however much was seen of the output and of the end, as soon as the file is closed, or given up in a stop.
 pub fn command<S: Openable, R: Read + Device, W: Write + Device, F: FaultStream>(
     rt: &HostRuntime,
     words: &[String],
@@ -75,7 +81,8 @@ pub fn command<S: Openable, R: Read + Device, W: Write + Device, F: FaultStream>
     ensures done { result.0 ≡ 0 → ¬ (AreOf (map string_bytes words.now) (codes "apply"))
         → ¬ (AreOf (map string_bytes words.now) (codes "convert"))
         → ¬ (AreOfToldImport (map string_bytes words.now))
-        → ¬ (AreOfPlainExport (map string_bytes words.now)) → faults.new ≡ faults.old }
+        → ¬ (AreOfPlainExport (map string_bytes words.now))
+        → ¬ (AreOfEnteredTable (map string_bytes words.now)) → faults.new ≡ faults.old }
     ensures words { result.0 ≡ 2 → (input.new ≡ input.old) × (output.new ≡ output.old) × IsUntouched result.1
         × (result.2 ≡ None) }
     ensures does { IsTaken (map string_bytes words.now)
@@ -154,6 +161,12 @@ fn work<S: Openable, R: Read + Device, W: Write + Device, F: FaultStream>(
             source,
             token,
         } => enter(rt, file, token, source, start, input, output, faults),
+        Asked::EnterTable {
+            file,
+            source,
+            order,
+            token,
+        } => enter_table(rt, file, token, source, order, start, input, output, faults),
         Asked::CheckTable {
             file,
             source,
@@ -195,7 +208,10 @@ fn work<S: Openable, R: Read + Device, W: Write + Device, F: FaultStream>(
             port,
             count,
             today,
-        } => open_room(rt, file, port, count, today, start, input, output, faults),
+            pages,
+        } => open_room(
+            rt, file, port, count, today, pages, start, input, output, faults,
+        ),
         Asked::Audit { file } => do_task(rt, file, Task::Audit, start, input, output, faults),
         Asked::Days {
             file,
@@ -212,8 +228,9 @@ fn work<S: Openable, R: Read + Device, W: Write + Device, F: FaultStream>(
             source,
             after,
             limit,
+            csv,
         } => {
-            let task = list_task(rt.alloc(), kind, source, after, limit);
+            let task = list_task(rt.alloc(), kind, source, after, limit, csv);
             do_task(rt, file, task, start, input, output, faults)
         }
         Asked::Find {
@@ -221,19 +238,24 @@ fn work<S: Openable, R: Read + Device, W: Write + Device, F: FaultStream>(
             words,
             kind,
             limit,
+            csv,
         } => {
-            let task = find_task(words, kind, limit);
+            let task = find_task(words, kind, limit, csv);
             do_task(rt, file, task, start, input, output, faults)
         }
         Asked::Show { file, numbers } => {
             let task = Task::Show { numbers };
             do_task(rt, file, task, start, input, output, faults)
         }
-        Asked::Review { file } => {
-            let listing = Listed::Doubts;
-            let task = Task::List { listing };
+        Asked::Review { file, csv } => {
+            let task = review_task(csv);
             do_task(rt, file, task, start, input, output, faults)
         }
+        Asked::Completions { text } => (
+            status_of(show(text, output), faults),
+            Left::Untouched(start),
+            None,
+        ),
         Asked::Text { text } => (
             status_of(show(&text, output), faults),
             Left::Untouched(start),

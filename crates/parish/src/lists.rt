@@ -1,10 +1,10 @@
-//! The tasks of `list` and `find`.
+//! The tasks of `list`, `find` and `review`.
 
 ghost use Rattle.std.specs.Prelude.{◌≡◌};
 ghost use Rattle.parish.specs.Lists as lists;
 
-use archive_lists::Listed;
 use command_line::{ListKind, RecordKind};
+use record_lists::{Chosen, Listed};
 use searching::{Kind, Listing, SearchWords, Wanted};
 use std::alloc::Global;
 use tasks::Task;
@@ -20,40 +20,44 @@ pub(crate) fn list_task(
     source: Option<u32>,
     after: u32,
     limit: Option<u32>,
+    csv: bool,
 ) -> Task
-    ensures { result ≡ lists.list_task kind source after limit }
+    ensures { result ≡ lists.list_task kind source after limit csv }
 {
     Task::List {
-        listing: listed_of(alloc, kind, source, after, limit_of(limit)),
+        listing: Listed {
+            of: chosen_of(alloc, kind, source, after, limit_of(limit)),
+            is_csv: csv,
+        },
     }
 }
 
 /// The slips, or the records of a kind.
-fn listed_of(alloc: Global, kind: ListKind, source: Option<u32>, after: u32, limit: usize) -> Listed
-    ensures { result ≡ lists.listed_of kind source after limit }
+fn chosen_of(alloc: Global, kind: ListKind, source: Option<u32>, after: u32, limit: usize) -> Chosen
+    ensures { result ≡ lists.chosen_of kind source after limit }
 {
     match kind {
-        ListKind::Slips => Listed::Slips { after, limit },
-        ListKind::Records(kind) => records_listed(alloc, kind, source, after, limit),
+        ListKind::Slips => Chosen::Slips { after, limit },
+        ListKind::Records(kind) => records_chosen(alloc, kind, source, after, limit),
     }
 }
 
 /// The records of a kind, of a source where one is given.
-fn records_listed(
+fn records_chosen(
     alloc: Global,
     kind: RecordKind,
     source: Option<u32>,
     after: u32,
     limit: usize,
-) -> Listed
-    ensures { result ≡ lists.records_listed kind source after limit }
+) -> Chosen
+    ensures { result ≡ lists.records_chosen kind source after limit }
 {
     let wanted = Wanted {
         kind: Some(kind_of(kind)),
         source,
         words: SearchWords::new(alloc),
     };
-    Listed::Records {
+    Chosen::Records {
         listing: Listing {
             wanted,
             after,
@@ -64,8 +68,13 @@ fn records_listed(
 }
 
 /// `find`: the records, of a kind where one is given, with a name in which the words occur, and how many are left out.
-pub(crate) fn find_task(words: SearchWords, kind: Option<RecordKind>, limit: Option<u32>) -> Task
-    ensures { result ≡ lists.find_task words kind limit }
+pub(crate) fn find_task(
+    words: SearchWords,
+    kind: Option<RecordKind>,
+    limit: Option<u32>,
+    csv: bool,
+) -> Task
+    ensures { result ≡ lists.find_task words kind limit csv }
 {
     let kind = match kind {
         Some(kind) => Some(kind_of(kind)),
@@ -83,7 +92,22 @@ pub(crate) fn find_task(words: SearchWords, kind: Option<RecordKind>, limit: Opt
         counts_others: true,
     };
     Task::List {
-        listing: Listed::Records { listing },
+        listing: Listed {
+            of: Chosen::Records { listing },
+            is_csv: csv,
+        },
+    }
+}
+
+/// `review`: what is doubtful.
+pub(crate) fn review_task(csv: bool) -> Task
+    ensures { result ≡ lists.review_task csv }
+{
+    Task::List {
+        listing: Listed {
+            of: Chosen::Doubts,
+            is_csv: csv,
+        },
     }
 }
 

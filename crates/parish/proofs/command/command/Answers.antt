@@ -12,7 +12,7 @@ use Rattle.archive_files.specs.declared.left.Left.TheVariants.{Untouched}
 use Rattle.record_text.specs.declared.refusal.RefusalText.{RefusalText}
 use Rattle.tasks.specs.Status.{Finishes}
 use Rattle.parish.specs.Doing.{tells}
-use Rattle.parish.specs.Ends.{AreOf, AreOfPlainExport, AreOfToldImport}
+use Rattle.parish.specs.Ends.{AreOf, AreOfEnteredTable, AreOfPlainExport, AreOfToldImport}
 use Rattle.parish.proofs.Ending.{does_at_most_1, does_quietly}
 use Rattle.parish.proofs.Untaken.{untaken}
 use Rattle.parish.proofs.command.command.Goals as goal
@@ -31,35 +31,40 @@ untold : (progress : Bool) (words : List (List ℕ)) → AreOf words (codes "imp
 untold false words of is no_import = refl
 untold true words of is no_import = absurd (no_import (of, sym is))
 
--- what is asked for says nothing where it is done, but for those three
+-- what is asked for says nothing where it is done, but for those five
 quiet : (a : Asked) (words : List (List ℕ)) → IfSome (name_of a) (λ n. IsTaken words × (command_named words ≡ Some n))
     → HasWords (subcommand_of program words) a → ¬ (AreOf words (codes "apply")) → ¬ (AreOf words (codes "convert"))
-    → ¬ (AreOfToldImport words) → ¬ (AreOfPlainExport words)
+    → ¬ (AreOfToldImport words) → ¬ (AreOfPlainExport words) → ¬ (AreOfEnteredTable words)
     → tells a ≡ false
-quiet (asked.Apply file stops) words of has no_apply no_convert no_import no_plain = absurd (no_apply of)
-quiet (asked.Import file token progress) words of has no_apply no_convert no_import no_plain =
+quiet (asked.Apply file stops) words of has no_apply no_convert no_import no_plain no_table = absurd (no_apply of)
+quiet (asked.Import file token progress) words of has no_apply no_convert no_import no_plain no_table =
     untold progress words of has.2 no_import
-quiet (asked.Convert from) words of has no_apply no_convert no_import no_plain = absurd (no_convert of)
-quiet asked.Norm words of has no_apply no_convert no_import no_plain = refl
-quiet asked.Check words of has no_apply no_convert no_import no_plain = refl
-quiet asked.CheckAll words of has no_apply no_convert no_import no_plain = refl
-quiet (asked.Init file society) words of has no_apply no_convert no_import no_plain = refl
-quiet (asked.Entries file source token) words of has no_apply no_convert no_import no_plain = refl
-quiet (asked.CheckTable file source order) words of has no_apply no_convert no_import no_plain = refl
-quiet (asked.Export file) words of has no_apply no_convert no_import no_plain = refl
-quiet (asked.ExportPublic file today) words of has no_apply no_convert no_import no_plain = refl
-quiet (asked.ExportPlain file) words of has no_apply no_convert no_import no_plain = absurd (no_plain (of, has.3))
-quiet (asked.ExportPublicPlain file today) words of has no_apply no_convert no_import no_plain =
+quiet (asked.Convert from) words of has no_apply no_convert no_import no_plain no_table = absurd (no_convert of)
+quiet asked.Norm words of has no_apply no_convert no_import no_plain no_table = refl
+quiet asked.Check words of has no_apply no_convert no_import no_plain no_table = refl
+quiet asked.CheckAll words of has no_apply no_convert no_import no_plain no_table = refl
+quiet (asked.Init file society) words of has no_apply no_convert no_import no_plain no_table = refl
+quiet (asked.Entries file source token) words of has no_apply no_convert no_import no_plain no_table = refl
+quiet (asked.EnterTable file source order token) words of has no_apply no_convert no_import no_plain no_table =
+    absurd (no_table (of, has.2, has.3))
+quiet (asked.CheckTable file source order) words of has no_apply no_convert no_import no_plain no_table = refl
+quiet (asked.Export file) words of has no_apply no_convert no_import no_plain no_table = refl
+quiet (asked.ExportPublic file today) words of has no_apply no_convert no_import no_plain no_table = refl
+quiet (asked.ExportPlain file) words of has no_apply no_convert no_import no_plain no_table =
     absurd (no_plain (of, has.3))
-quiet (asked.Sheet file which number generations today) words of has no_apply no_convert no_import no_plain = refl
-quiet (asked.Serve file port count today) words of has no_apply no_convert no_import no_plain = refl
-quiet (asked.Audit file) words of has no_apply no_convert no_import no_plain = refl
-quiet (asked.Days file first last told) words of has no_apply no_convert no_import no_plain = refl
-quiet (asked.List file which source after limit) words of has no_apply no_convert no_import no_plain = refl
-quiet (asked.Find file names which limit) words of has no_apply no_convert no_import no_plain = refl
-quiet (asked.Show file numbers) words of has no_apply no_convert no_import no_plain = refl
-quiet (asked.Review file) words of has no_apply no_convert no_import no_plain = refl
-quiet (asked.Text text) words of has no_apply no_convert no_import no_plain = refl
+quiet (asked.ExportPublicPlain file today) words of has no_apply no_convert no_import no_plain no_table =
+    absurd (no_plain (of, has.3))
+quiet (asked.Sheet file which number generations today) words of has no_apply no_convert no_import no_plain no_table =
+    refl
+quiet (asked.Serve file port count today pages) words of has no_apply no_convert no_import no_plain no_table = refl
+quiet (asked.Audit file) words of has no_apply no_convert no_import no_plain no_table = refl
+quiet (asked.Days file first last told) words of has no_apply no_convert no_import no_plain no_table = refl
+quiet (asked.List file which source after limit csv) words of has no_apply no_convert no_import no_plain no_table = refl
+quiet (asked.Find file names which limit csv) words of has no_apply no_convert no_import no_plain no_table = refl
+quiet (asked.Show file numbers) words of has no_apply no_convert no_import no_plain no_table = refl
+quiet (asked.Review file csv) words of has no_apply no_convert no_import no_plain no_table = refl
+quiet (asked.Completions text) words of has no_apply no_convert no_import no_plain no_table = refl
+quiet (asked.Text text) words of has no_apply no_convert no_import no_plain no_table = refl
 
 pub returns-in-Ok-clause-status : goal.returns-in-Ok-clause-status
 returns-in-Ok-clause-status g c =
@@ -76,12 +81,12 @@ returns-in-Ok-clause-words g c = λ two.
     absurd (omega (arith, one, two))
 
 pub returns-in-Ok-clause-done : goal.returns-in-Ok-clause-done
-returns-in-Ok-clause-done g c = λ zero no_apply no_convert no_import no_plain.
+returns-in-Ok-clause-done g c = λ zero no_apply no_convert no_import no_plain no_table.
     does_quietly g.R.Read g.R.Device g.W.Write g.W.Device g.F.Write g.F.Device
     (image_at g.S.Start) _ _ _ _ _ c.in-Ok.asked
     c.work.ensures
     (quiet c.in-Ok.asked (map string_bytes c.args.words.now) c.in-Ok.ensures.asked.0 c.in-Ok.ensures.asked.1
-    no_apply no_convert no_import no_plain) zero
+    no_apply no_convert no_import no_plain no_table) zero
 
 pub returns-in-Ok-clause-does : goal.returns-in-Ok-clause-does
 returns-in-Ok-clause-does g c = λ taken.

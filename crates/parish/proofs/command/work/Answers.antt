@@ -84,3 +84,10 @@ returns-in-Find g c =
     in_task g.R.Read g.R.Device g.W.Write g.W.Device g.F.Write g.F.Device (image_at g.S.Start) _ _ _ _ _
     c.find_task-task.result _ c.find_task-task.ensures c.do_task-in-Find.ensures
     )
+
+pub returns-in-Review : goal.returns-in-Review
+returns-in-Review g c =
+    rw c.in-Review.is (
+    in_task g.R.Read g.R.Device g.W.Write g.W.Device g.F.Write g.F.Device (image_at g.S.Start) _ _ _ _ _
+    c.review_task-task.result _ c.review_task-task.ensures c.do_task-in-Review.ensures
+    )
