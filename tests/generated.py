@@ -1,4 +1,4 @@
-"""The parts of documents that repeat the sources, and what writes them.
+"""The parts of documents and sources that repeat other sources, and what writes them.
 
     python3 tests/generated.py
 
@@ -15,12 +15,16 @@ from __future__ import annotations
 import glob
 import os
 import re
+import sys
 import textwrap
 
 import manual
 from cited import LAWS_SAID, MAIN_WORDS
 
 ROOT = os.path.dirname(os.path.dirname(os.path.abspath(__file__)))
+sys.path.insert(0, os.path.join(ROOT, "packaging"))
+import completions  # noqa: E402
+
 WIDTH = 120
 
 HEADING = re.compile(r"# (.*)")
@@ -327,7 +331,25 @@ def gate_table(now):
     return gate_rows(measured(now))
 
 
+def literal_line(text):
+    """A line of a literal of Rust, broken at spaces if it is long."""
+    line, pieces = text.replace("\\", "\\\\").replace('"', '\\"'), []
+    while len(line) >= WIDTH:
+        at = line.rindex(" ", 0, WIDTH - 1) + 1
+        pieces.append(line[:at] + "\\")
+        line = line[at:]
+    return "\n".join([*pieces, line])
+
+
+def completion_texts(_now):
+    """What each shell reads, as a constant of Rust."""
+    for shell, text in (("bash", completions.bash(ROOT)), ("zsh", completions.zsh(ROOT))):
+        lines = "\n".join(map(literal_line, text.split("\n")))
+        yield f'const {shell.upper()}: &str = "\\\n{lines}";\n'
+
+
 PARTS = {
+    ("crates/command_line/src/shells.rt", "completions"): completion_texts,
     ("docs/ARCHITECTURE.md", "crates"): list_of_crates,
     ("docs/DEFINITIONS.md", "definitions"): list_of_definitions,
     ("docs/DEFINITIONS.md", "laws"): list_of_laws,
@@ -345,11 +367,12 @@ PARTS = {
 
 MARKS = ("<!-- generated: {} -->\n", "<!-- end of {} -->")
 MARKS_OF_TROFF = ('.\\" generated: {}\n', '.\\" end of {}\n')
+MARKS_OF_RUST = ("// generated: {}\n", "// end of {}")
 
 
 def part_of(text, name):
     """A part of a document: what is before it, the part, what is after it."""
-    marks = MARKS_OF_TROFF if text.startswith("'\\\"") else MARKS
+    marks = MARKS_OF_TROFF if text.startswith("'\\\"") else MARKS_OF_RUST if text.startswith("//!") else MARKS
     begin, end = (mark.format(name) for mark in marks)
     before, _, more = text.partition(begin)
     now, found, after = more.partition(end)
@@ -362,7 +385,7 @@ def written(document, name):
     """The document with the part as the sources have it today."""
     before, now, after = part_of(text_of(document), name)
     lines = "\n".join(PARTS[document, name](now)).strip("\n")
-    between = "" if document.endswith(".1") else "\n"
+    between = "\n" if document.endswith(".md") else ""
     return f"{before}{between}{lines}\n{between}{after}"
 
 

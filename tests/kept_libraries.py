@@ -44,12 +44,21 @@ def is_given(kept, crate) -> bool:
     return True
 
 
+def is_there(kept, crate) -> bool:
+    """Whether the library is in its place; those above it are kept under a name that has its sum."""
+    if not crate.is_built():
+        return is_given(kept, crate)
+    if not isinstance(kept, KeptProofs):
+        kept.is_built(crate)
+    return True
+
+
 def lacking_below(module, every, names: list[str]) -> list:
     """Puts each library below the named crates into its place where it is kept; those that are not, lowest first."""
     below = {one.name for it in every if it.name in names for one in it.below()}
     libraries = [it for it in every if it.name in below and not it.is_program]
     kept = module.Kept(libraries, False) if hasattr(module, "Kept") else KeptProofs(module, os.getcwd())
-    return [it for it in libraries if not it.is_built() and not is_given(kept, it)]
+    return [it for it in libraries if not is_there(kept, it)]
 
 
 def main(names: list[str]) -> int:

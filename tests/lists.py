@@ -123,6 +123,7 @@ WORDS = (
     ("list", "FILE", "persons", "--today", "2024-01-01"),
     ("list", "FILE", "persons", "--limit", "1", "--limit", "2"),
     ("list", "FILE", "persons", "--source", "10"),
+    ("list", "FILE", "persons", "--csv", "yes"), ("show", "FILE", "1", "--csv"),
     ("find", "FILE", "ann", "--after", "1"),
     *(("list", "FILE", kind) for kind in NO_KINDS),
     *(("find", "FILE", "ann", "--kind", kind) for kind in (*NO_KINDS, "slips")),

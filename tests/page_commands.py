@@ -1,13 +1,14 @@
-"""`entries --table --check` by the executable: what is wrong or doubtful in a table of register entries. What is
-expected was written by hand from docs/FORMATS.md."""
+"""`entries --table` by the executable: what of a table of register entries is entered, and with `--check` what is wrong
+or doubtful in it. What is expected was written by hand from docs/FORMATS.md."""
 
 from __future__ import annotations
 
 import os
 import tempfile
 
+from archives import lines
 from ends import refused_as_no_archive
-from harness import Case, Outcome, Tools, demand, expect, refused, run, written
+from harness import Case, Outcome, Tools, demand, expect, named, refused, run, written
 from lists import Listed
 
 # Rows of a new archive, which are its records 1 to 5.
@@ -73,6 +74,13 @@ class Checked(Listed):
         words = ("entries", self.file, "--table", "--check", "--source", source, *words)
         return run(self.parish, words, given, **how)
 
+    def enter(self, given, *words, source="3", token="page-8", **how):
+        words = ("entries", self.file, "--table", "--source", source, "--token", token, *words)
+        return run(self.parish, words, given, **how)
+
+    def entries(self, rows, token="page-8"):
+        return run(self.parish, ("entries", self.file, "--source", "3", "--token", token), lines(rows))
+
 
 def page(*rows):
     return (HEADER + "".join(f"{row}\n" for row in rows)).encode()
@@ -84,6 +92,11 @@ def found(rows, lines):
     wrong = {line.split(":")[0] for line in lines if ": doubt: " not in line}
     out = "".join(f"{line}\n" for line in lines) + f"{rows} rows, {len(wrong)} wrong, {len(doubtful)} doubtful\n"
     return Outcome(out.encode(), b"", 1 if wrong else 0)
+
+
+def refused_at(number, row, line=""):
+    """A refusal of a row, after the line of the cell."""
+    return Outcome(b"", f"{line}parish: {named(number)} at row {row}\n".encode(), 1)
 
 
 def each_cell(tools):
@@ -179,6 +192,85 @@ def then_entered(tools):
         expect(at.check(page("BURIAL,8,1,6 MAY 1761,2,,Ann Lee")), found(1, ["row 2: 60 DuplicateEntry: BURIAL 8 1"]))
 
 
+# A page, and its rows as `entries` reads them.
+GOOD = (
+    'burial,8,1.0,1761-05-06,"Ashby , Kent","two\nlines",Ann Lee,,mine', "", "BURIAL,8,2,at harvest,@a,,Tom",
+    "MARRIAGE,,1,,2.0,,,Jo",
+)
+BATCH = (
+    'BURIAL,8,1,6 MAY 1761,2,"two\nlines",buried,Ann Lee', "BURIAL,8,2,at harvest,1,,buried,Tom",
+    "MARRIAGE,,1,,2,,father-of-groom,Jo",
+)
+ENTERED = Outcome(b"made 3 entries, first 6\n", b"1 dates have no days but words\n", 0)
+
+
+def without_digests(at):
+    """All rows of all tables, of the receipts all but the digest."""
+    tables = at.tables()
+    return {**tables, "receipt": [row[:2] + row[3:] for row in tables["receipt"]]}
+
+
+def entered(tools):
+    """A page is entered as its rows are by `entries`, once, and known by what it says."""
+    with Checked(tools) as at, Checked(tools) as rows:
+        expect(at.with_rows(ROWS).enter(page(*GOOD)), ENTERED)
+        expect(rows.with_rows(ROWS).entries(BATCH), written(ENTERED.out))
+        demand(without_digests(at) == without_digests(rows), "the tables are not those of the rows")
+        expect(at.enter(page(*GOOD)), ENTERED)
+        other = b"\xef\xbb\xbf" + page("", *GOOD).replace(b",", b";").replace(b"Ashby ; Kent", b"Ashby, Kent")
+        expect(at.enter(other), ENTERED)
+        expect(at.enter(page(*GOOD[:1])), refused(52))
+        expect(at.entries(BATCH), refused(52))
+        expect(rows.enter(page(*GOOD)), refused(52))
+        expect(at.enter(page(*GOOD), token="again"), refused_at(60, 2))
+        expect(at.enter(page(), token="none"), written(b"made 0 entries, first 9\n"))
+        expect(at.enter(page("BURIAL,9,1,5/6/1761,,,Ann"), "--dates", "dmy", token="days"), written(
+            b"made 1 entries, first 9\n"))
+        gone = lines(("f,remove,6", "g,remove,8", "h,remove,2"))
+        expect(at.apply(gone), written(b"f,ok,0,0\ng,ok,0,0\nh,ok,0,0\n"))
+        expect(at.enter(page(*GOOD)), ENTERED)
+
+
+def not_entered(tools):
+    """Where a row is refused none is entered; the row has the number of the sheet."""
+    with Checked(tools) as at:
+        before = at.with_rows(ROWS).tables()
+        good = "BURIAL,8,1,,,,Ann"
+        for row, outcome in (
+            ("BURIAL,8,1a,,,,Ann", refused_at(90, 4, "row 4: 90 BadRow: Item: 1a\n")),
+            ("BURIAL,8,2,5/6/1761,,,Ann", refused_at(90, 4, "row 4: 90 BadRow: Date: 5/6/1761\n")),
+            ("BURIAL,8,2,,,,,Tom", refused_at(62, 4, "row 4: 62 NotOfKind: Father of Groom: Tom\n")),
+            ("BURIAL,8,2,,,,", refused_at(92, 4, "row 4: 92 FieldCount\n")),
+            ("BURIAL,8,2,,,,Ann,,,x", refused_at(97, 4, "row 4: 97 UnknownColumn: x\n")),
+            ('BURIAL,8,2,,"Ashby, Surrey",,Ann', refused_at(50, 4, "row 4: 50 NoSuch: place: Ashby, Surrey\n")),
+            ("BURIAL,8,2,,@none,,Ann", refused_at(50, 4, "row 4: 50 NoSuch: place: @none\n")),
+            ("BURIAL,8,2,,9,,Ann", refused_at(50, 4)),
+            ("BURIAL,8,2,,@c,,Ann", refused_at(51, 4)),
+            ("BURIAL,8,1.0,,,,Eva", refused_at(60, 4)),
+            ("BURIAL,7,1,,,,Ann", refused_at(60, 4)),
+        ):
+            expect(at.enter(page(good, "", row, "BURIAL,8,3,,,,Jo")), outcome)
+        for given, text in UNREAD:
+            expect(at.enter(given), Outcome(b"", f"parish: {text}".encode(), 1))
+        expect(at.enter(page(good), source="9"), refused(50))
+        expect(at.enter(page(good), source="2"), refused(51))
+        expect(at.enter(page(good), token="two words"), refused(93))
+        expect(at.enter(page(good) + b"\n" * (MOST + 1 - len(page(good)))), refused(27))
+        folder = os.open(tempfile.gettempdir(), os.O_RDONLY)
+        expect(at.enter(b"", stdin=folder), refused(94))
+        os.close(folder)
+        demand(at.tables() == before, "the tables changed")
+        with open("/dev/full", "wb") as full:
+            expect(at.enter(page(good), stdout=full), refused(95))
+        expect(at.enter(page(good)), written(b"made 1 entries, first 6\n"))
+        at.other_database("UPDATE line SET tag = 'frob' WHERE no = 3")
+        expect(at.enter(page(good), token="spoilt"), refused(40))
+
+
+def in_no_archive(tools):
+    refused_as_no_archive(Checked, tools, lambda at: at.enter(page("BURIAL,8,1,,,,Ann Lee")))
+
+
 TESTS = (
     each_cell,
     a_page,
@@ -188,6 +280,9 @@ TESTS = (
     refusals,
     no_archive,
     then_entered,
+    entered,
+    not_entered,
+    in_no_archive,
 )
 
 

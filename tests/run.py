@@ -37,6 +37,7 @@ import imports  # noqa: E402
 import kept_gate  # noqa: E402
 import layout  # noqa: E402
 import leaks  # noqa: E402
+import list_rows  # noqa: E402
 import lists  # noqa: E402
 import memory  # noqa: E402
 import merges  # noqa: E402
@@ -83,6 +84,7 @@ PARTS = (
     audits,
     unsound,
     days,
+    list_rows,
     lists,
     earlier,
     merges,

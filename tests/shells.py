@@ -9,7 +9,7 @@ import subprocess
 import sys
 import tempfile
 
-from harness import ROOT, Case, Tools, demand, run
+from harness import ROOT, Case, Tools, demand, expect, refused, run, written
 
 sys.path.insert(0, os.path.join(ROOT, "packaging"))
 import completions  # noqa: E402
@@ -24,6 +24,8 @@ OFFERED = (
     (("find", "town.db", "--kind", "e"), {"events", "entries"}),
     (("convert", "--from", "utf-16"), {"utf-16le", "utf-16be"}),
     (("apply", "town.db", "--s"), {"--stop"}),
+    (("completions", ""), {"bash", "zsh"}),
+    (("list", "town.db", "persons", "--c"), {"--csv"}),
     (("export", "town.db", "--p"), {"--public", "--plain"}),
     (("audit", "to"), {"town.db", "town.csv"}),
     (("export", "town.db", "--today", ""), set()),
@@ -87,6 +89,17 @@ def what_help_names(tools):
                 demand(f"'{option}[" in completions.zsh(ROOT), f"{name}: zsh does not offer {option}")
 
 
+def printed_as_packaged(tools):
+    """`completions` prints the file that packages have, and is refused for other shells."""
+    for shell, text in (("bash", completions.bash(ROOT)), ("zsh", completions.zsh(ROOT))):
+        expect(run((*tools.parish, "completions", shell)), written(text.encode()))
+    for words in ((), ("fish",), ("Bash",), ("",), ("bash", "zsh"), ("bash", "--csv")):
+        got = run((*tools.parish, "completions", *words))
+        demand((got.status, got.out) == (2, b"") and got.err != b"", f"{words}: {got}")
+    with open("/dev/full", "wb") as full:
+        expect(run((*tools.parish, "completions", "zsh"), stdout=full), refused(95))
+
+
 def zsh_reads_it():
     with tempfile.TemporaryDirectory() as folder:
         path = os.path.join(folder, "_parish")
@@ -99,5 +112,6 @@ def zsh_reads_it():
 def cases(tools: Tools):
     yield Case("completions: bash offers files and values", values_are_offered)
     yield Case("completions: what help names, and nothing else", lambda: what_help_names(tools))
+    yield Case("completions: printed as packages have them", lambda: printed_as_packaged(tools))
     if shutil.which("zsh"):
         yield Case("completions: zsh reads its file", zsh_reads_it)
