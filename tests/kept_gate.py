@@ -3,6 +3,7 @@
 from __future__ import annotations
 
 import os
+import re
 import tempfile
 from dataclasses import dataclass
 from types import SimpleNamespace
@@ -152,6 +153,41 @@ def an_edit_is_taken_by_its_text(room):
     demand(room.store().refusal(crate, edit) is None, "another edit of its name is known")
 
 
+def kit(crate, **words):
+    """A kit whose check of an edit's function does not prove it, and whose own try of it counts how often it ran."""
+    said = f"note: src/lib.rt:1:1: it is not proved\nfn {crate.name}::pages: not proved\nonly=1 proved=0"
+
+    def must_fail(*_given):
+        raise AssertionError("the whole crate was checked, though the function is not proved")
+
+    return SimpleNamespace(
+        read_edit=lambda _edit, folder: ({"src/lib.rt": "fn pages() {\n    2\n}\n"}, None),
+        checked=lambda *_given: SimpleNamespace(stdout=said, returncode=1),
+        unread=lambda _line, _texts: False,
+        rtlib=SimpleNamespace(STALE=re.compile("stale")),
+        must_fail=must_fail,
+        **words,
+    )
+
+
+def a_refused_edit_is_one_of_the_kits_kinds(room):
+    write(f"{room.top}/register/src/lib.rt", "fn pages() {\n    1\n}\n")
+    crate, edit = library(f"{room.top}/register", "a"), f"{room.top}/one.edit"
+    write(edit, "file: src/lib.rt\nold:     1\nnew:     2\n")
+    older, newer = kit(crate), kit(crate, REFUSED="refused", AT_LIMIT="limit")
+    for module, kind in ((older, True), (newer, "refused")):
+        found, said = rt_ci.tried(module)(crate, edit, [])
+        demand(found == kind, f"a refused edit counts as {found!r}, which that kit does not know")
+        demand("not proved" in said, f"it is not said what stops it: {said}")
+
+
+def an_edit_that_is_proved_is_not_refused(_room):
+    newer = kit(library("", "a"), REFUSED="refused", AT_LIMIT="limit", MISSED="missed")
+    kinds = rt_ci.refused_kinds(newer)
+    demand("missed" not in kinds and "refused" in kinds, f"refused are {kinds}")
+    demand(rt_ci.refused_kinds(SimpleNamespace()) == (True,), "older kits answer True and False")
+
+
 TESTS = (
     ("takes a proof of the same sum", the_same_is_taken),
     ("proves what has another source, kit or HANDLES", what_differs_is_proved),
@@ -160,6 +196,8 @@ TESTS = (
     ("keeps no proof under which a source changed", a_changed_source_is_not_kept),
     ("takes nothing where all is to be proved anew", nothing_is_taken_anew),
     ("takes an edit by its text and sources", an_edit_is_taken_by_its_text),
+    ("counts a refused edit as the kit does", a_refused_edit_is_one_of_the_kits_kinds),
+    ("counts an edit that is proved as none refused", an_edit_that_is_proved_is_not_refused),
 )
 
 

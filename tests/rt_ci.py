@@ -83,13 +83,18 @@ def goals(lines: list[str], crate: str, path: str) -> list[str]:
     return [it for it in lines if re.match(r"note: \S+:\d+:\d+: .*not proved|\./proofs/\S+:\d+:\d+: error", it)]
 
 
-def refused_in_part(module, crate, edit: str, flags: list[str]) -> str | None:
+def refused_kinds(module) -> tuple:
+    """What the kit's `must_fail` answers of a refused edit, the plainest first: kits up to 13b say only whether it is."""
+    return (module.REFUSED, module.AT_LIMIT) if hasattr(module, "REFUSED") else (True,)
+
+
+def refused_in_part(module, crate, edit: str, flags: list[str], kept=None) -> str | None:
     """Why the function that an edit changes is not proved. None: it is, or the whole crate has to be tried."""
     texts, why = module.read_edit(edit, crate.folder)
     path = None if why else changed_function(texts, crate.folder)
     if path is None:
         return None
-    ran = module.checked(crate, texts, [*flags, "--only", path], None)
+    ran = module.checked(crate, texts, [*flags, "--only", path], kept)
     lines = ran.stdout.rstrip("\n").split("\n")
     if ran.returncode != 1 or module.rtlib.STALE.search(ran.stdout) or any(module.unread(it, texts) for it in lines):
         return None
@@ -100,22 +105,22 @@ def refused_in_part(module, crate, edit: str, flags: list[str]) -> str | None:
 
 def tried(module, store: KeptProofs | None = None):
     """How an edit is tried, where no earlier run refused it: on its function first, and then as by `rt ci`."""
-    whole = module.must_fail
+    whole, kinds = module.must_fail, refused_kinds(module)
 
     def anew(crate, edit, flags, kept):
-        why = refused_in_part(module, crate, edit, flags)
+        why = refused_in_part(module, crate, edit, flags, kept)
         if why is None:
             return whole(crate, edit, flags, kept)
-        return True, f"must-fail {crate.name}/{os.path.basename(edit)}: refused, as it must be: {why[:160]}"
+        return kinds[0], f"must-fail {crate.name}/{os.path.basename(edit)}: refused, as it must be: {why[:160]}"
 
     def must_fail(crate, edit, flags, kept=None):
         known = store and store.refusal(crate, edit)
         if known:
-            return True, f"{known} (an earlier run)"
-        refused, said = anew(crate, edit, flags, kept)
-        if refused and store and is_unchanged(crate):
+            return kinds[0], f"{known} (an earlier run)"
+        kind, said = anew(crate, edit, flags, kept)
+        if kind in kinds and store and is_unchanged(crate):
             store.keep_refusal(crate, edit, said)
-        return refused, said
+        return kind, said
 
     return must_fail
 
@@ -155,10 +160,14 @@ def keeping(prove, store: KeptProofs):
     return ci
 
 
-def kept_by(module, root: str) -> KeptProofs | None:
-    """Has proofs and edits kept, and taken from earlier runs; None where the kit does that."""
-    store = None if hasattr(module, "Kept") else KeptProofs(module, root)
-    if store:
+def kept_by(module, root: str, aside: bool = False) -> KeptProofs | None:
+    """Has proofs and edits kept, and taken from earlier runs; None where the kit does that.
+
+    Of edits that stand `aside`, no kit keeps what became of them.
+    """
+    by_kit = hasattr(module, "Kept")
+    store = None if by_kit and not aside else KeptProofs(module, root)
+    if store and not by_kit:
         module.Crate.ci = keeping(module.Crate.ci, store)
     module.must_fail = tried(module, store)
     return store
