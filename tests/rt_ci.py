@@ -84,7 +84,7 @@ def goals(lines: list[str], crate: str, path: str) -> list[str]:
 
 
 def refused_kinds(module) -> tuple:
-    """What the kit's `must_fail` answers of a refused edit, the plainest first: kits up to 13b say only whether it is."""
+    """What the kit's `must_fail` answers of a refused edit, the plainest first; kits up to 13b say whether it is."""
     return (module.REFUSED, module.AT_LIMIT) if hasattr(module, "REFUSED") else (True,)
 
 

@@ -112,6 +112,25 @@ again c after r a (Some x) is e =
 pub repeated : (c after : Content) (r : Request) (a : Answer) → Does c r (Ok a) after → Does after r (Ok a) after
 repeated c after r a e = again c after r a (get c.receipts r.token) refl e
 
+again_alike : (c after : Content) (r other : Request) (a : Answer) (o : Option Receipt) → get c.receipts r.token ≡ o
+    → served c r o ≡ Ok (after, a) → other.token ≡ r.token → request_digest other ≡ request_digest r
+    → served after other (get after.receipts other.token) ≡ Ok (after, a)
+again_alike c after r other a None is e token digest =
+    ap (λ t. served after other (get after.receipts t)) token
+    ∙ ap (served after other) (kept_again (step c r.command) r.token (request_digest r) after a e)
+    ∙ ap (λ d. answered_again after d (record { digest = request_digest r; answer = a })) digest
+    ∙ same_again after (request_digest r) a
+again_alike c after r other a (Some x) is e token digest =
+    subst (λ (z : Content). served z other (get z.receipts other.token) ≡ Ok (after, a))
+    (stays c after (request_digest r) x a e)
+    (ap (λ t. served c other (get c.receipts t)) token ∙ ap (served c other) is
+    ∙ ap (λ d. answered_again c d x) digest ∙ e)
+
+-- and so is one of the same token and digest, whatever else it has
+pub repeated_alike : (c after : Content) (r other : Request) (a : Answer) → Does c r (Ok a) after
+    → other.token ≡ r.token → request_digest other ≡ request_digest r → Does after other (Ok a) after
+repeated_alike c after r other a e = again_alike c after r other a (get c.receipts r.token) refl e
+
 -- ---- receipts
 still_there : (c : Content) (token other : List ℕ) (x v : Receipt) → get c.receipts token ≡ None
     → get c.receipts other ≡ Some x → get (insert c.receipts token v) other ≡ Some x

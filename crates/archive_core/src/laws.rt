@@ -16,7 +16,7 @@ ghost use Rattle.archive_core.specs.Applied.{Decides};
 ghost use Rattle.archive_state.specs.Applied.{applied};
 ghost use Rattle.command_checks.specs.Checks.{need, said_place_at};
 ghost use Rattle.command_checks.specs.Numbers.{Draws, UsesNoneAgain};
-ghost use Rattle.archive_core.specs.Machine.{Does, Done, Runs, outcome};
+ghost use Rattle.archive_core.specs.Machine.{Does, Done, Runs, outcome, request_digest};
 ghost use Rattle.archive_core.specs.Steps.{step};
 ghost use Rattle.archive_core.specs.Words.{HasUtf8Words};
 ghost use Rattle.record_shapes.specs.Lists.{EachOf};
@@ -25,6 +25,13 @@ ghost use Rattle.archive_core.specs.declared.request.Request.{Request};
 /// A request that was accepted is answered as before when it comes again, and changes nothing then.
 pub fn a_repeated_request_changes_nothing()
     ensures { (c after : Content) (r : Request) (a : Answer) → Does c r (Ok a) after → Does after r (Ok a) after }
+{}
+
+/// So is a request in other words that has its token and its digest: a page of a spreadsheet that comes again, say,
+/// whatever numbers its places have by then.
+pub fn a_request_of_the_same_digest_is_answered_again()
+    ensures { (c after : Content) (r other : Request) (a : Answer) → Does c r (Ok a) after → other.token ≡ r.token
+        → request_digest other ≡ request_digest r → Does after other (Ok a) after }
 {}
 
 /// A request that is refused changes nothing.
