@@ -1,4 +1,3 @@
-
 use Rattle.archive_core.proofs.Serving.{repeated_alike}
 use Rattle.archive_core.proofs.laws.a_request_of_the_same_digest_is_answered_again.Goals as goal
 
