@@ -48,6 +48,7 @@ import queries  # noqa: E402
 import readme_lines  # noqa: E402
 import references  # noqa: E402
 import refusals  # noqa: E402
+import released  # noqa: E402
 import releases  # noqa: E402
 import reviews  # noqa: E402
 import rooms  # noqa: E402
@@ -87,6 +88,7 @@ PARTS = (
     list_rows,
     lists,
     earlier,
+    released,
     merges,
     exports,
     plain_exports,
