@@ -114,7 +114,8 @@ def main() -> int:
             got = kept(program, told[program][number])
             is_so = got == wanted
             passed, failed = passed + is_so, failed + (not is_so)
-            print(f"{one.name}: {program}: {got}" + ("" if is_so else f", and not {wanted}"), *told[program][number].said)
+            instead = "" if is_so else f", and not {wanted}"
+            print(f"{one.name}: {program}: {got}{instead}", *told[program][number].said)
     print(f"{passed} passed, {failed} failed")
     return 1 if failed else 0
 
