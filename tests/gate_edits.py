@@ -1,4 +1,5 @@
-"""Which function an edit changes (changed_functions.py): in a small source, and for each edit of the gate."""
+"""Which function an edit changes (changed_functions.py), in a small source and for each edit of the gate, and whether
+each edit can be made."""
 
 from __future__ import annotations
 
@@ -100,7 +101,39 @@ def most_edits_change_one_function():
     demand(len(paths) > 50 and len(found) > 0.9 * len(paths), f"{len(found)} of {len(paths)} change one function")
 
 
+def misses(path: str, folder: str) -> str | None:
+    """Why an edit cannot be made: a text that it changes is not there once, after its earlier pairs."""
+    texts, file, old = {}, "", None
+    with open(path, encoding="utf-8") as lines:
+        for line in lines.read().split("\n"):
+            word, _, rest = line.partition(":")
+            if word == "file":
+                file = rest.strip()
+                if not os.path.isfile(os.path.join(folder, file)):
+                    return f"there is no {file}"
+                with open(os.path.join(folder, file), encoding="utf-8") as source:
+                    texts.setdefault(file, source.read())
+            elif word == "old":
+                old = rest[1:]
+            elif word == "new" and old is not None:
+                if texts[file].count(old) != 1:
+                    return f"{old!r} is in {file} {texts[file].count(old)} times"
+                texts[file] = texts[file].replace(old, rest[1:])
+    return None if old else "it changes nothing"
+
+
+def every_edit_can_be_made():
+    """Those aside are not tried by the gate, so a change of a source leaves them behind without a word."""
+    aside, gate = glob.glob(f"{ROOT}/tests/edits/*/*.edit"), glob.glob(f"{ROOT}/crates/*/must-fail/*.edit")
+    crates = {it: os.path.join(ROOT, "crates", it.split(os.sep)[-2]) for it in aside}
+    crates.update({it: os.path.dirname(os.path.dirname(it)) for it in gate})
+    wrong = [f"{os.path.relpath(it, ROOT)}: {why}" for it, at in crates.items() if (why := misses(it, at))]
+    demand(len(aside) > 1000 and len(gate) > 50, f"only {len(aside)} edits aside and {len(gate)} of the gate were found")
+    demand(not wrong, "; ".join(sorted(wrong)))
+
+
 def cases(_tools: Tools):
     yield Case("gate edits: the function that an edit changes is found", functions_are_found)
     yield Case("gate edits: an edit of several files changes no single function", several_files_are_no_function)
     yield Case("gate edits: nine of ten change one function", most_edits_change_one_function)
+    yield Case("gate edits: each edit, also those aside, changes a text that is there once", every_edit_can_be_made)
