@@ -128,7 +128,8 @@ def every_edit_can_be_made():
     crates = {it: os.path.join(ROOT, "crates", it.split(os.sep)[-2]) for it in aside}
     crates.update({it: os.path.dirname(os.path.dirname(it)) for it in gate})
     wrong = [f"{os.path.relpath(it, ROOT)}: {why}" for it, at in crates.items() if (why := misses(it, at))]
-    demand(len(aside) > 1000 and len(gate) > 50, f"only {len(aside)} edits aside and {len(gate)} of the gate were found")
+    counts = f"{len(aside)} edits aside and {len(gate)} of the gate"
+    demand(len(aside) > 1000 and len(gate) > 50, f"only {counts} were found")
     demand(not wrong, "; ".join(sorted(wrong)))
 
 
