@@ -35,6 +35,7 @@ use Rattle.command_line.specs.Asking.{
   IsTaken,
   are_pages_fit,
   command_named,
+  is_batch_fit,
   is_fit,
   is_form_fit,
   is_listed,
@@ -134,10 +135,12 @@ fit_of (asked.Entries file source token) found e has some =
     (λ rows words. batch_there _ _ _ _ _ _ token.now words.3 words.4 words.2 words.5 words.6)
 fit_of (asked.EnterTable file source form token) found e has some =
     fit_by (asked.EnterTable file source form token) found (codes "entries") e has
-    (λ rows words. tabled_there _ _ _ _ _ token.now words.2 words.4 words.5 (form_there _ form words.3))
+    (λ rows words. tabled_there _ _ (is_batch_fit (Some (codes "entries", rows))) _ _ token.now words.2 words.4 words.5
+    (form_there (Some (codes "entries", rows)) form words.3))
 fit_of (asked.CheckTable file source form) found e has some =
     fit_by (asked.CheckTable file source form) found (codes "entries") e has
-    (λ rows words. table_there _ _ _ _ _ words.2 words.4 (form_there _ form words.3))
+    (λ rows words. table_there _ _ (is_batch_fit (Some (codes "entries", rows))) _ _ words.2 words.4
+    (form_there (Some (codes "entries", rows)) form words.3))
 fit_of (asked.Import file token progress) found e has some =
     fit_by (asked.Import file token progress) found (codes "import") e has (λ rows words. refl)
 fit_of (asked.Export file) found e has some =

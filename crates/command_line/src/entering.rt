@@ -1,6 +1,6 @@
 //! Register entries: a batch or a table under a token, or a table that is only looked over.
 
-ghost use Rattle.std.specs.Prelude.{◌≡◌, IfOk, MatchResult, Some, ⊤, codes, option_map, true};
+ghost use Rattle.std.specs.Prelude.{◌≡◌, ◌&&◌, IfOk, MatchResult, Some, ⊤, codes, option_map, true};
 ghost use Rattle.clap.specs.Words.{found_of, rows_of};
 ghost use Rattle.command_line.specs.Asking.{AsksForWork, HasWords, IsMeant, is_fit, is_meant, name_of};
 ghost use Rattle.command_line.specs.Meanings.{order_named, set_named};
@@ -61,8 +61,8 @@ pub(crate) fn entries_asked<'a>(alloc: Global, given: &ArgMatches<'a>) -> Result
 fn form_given(alloc: Global, dates: Option<&str>, from: Option<&str>) -> Result<TableWords, Refused>
     ensures order { IfOk result (λ form. IsMeant order_named (option_map (λ w. w.now) dates.entry) form.order) }
     ensures set { IfOk result (λ form. IsMeant set_named (option_map (λ w. w.now) from.entry) form.set) }
-    ensures taken { is_meant order_named (option_map (λ w. w.now) dates.entry) ≡ true
-        → is_meant set_named (option_map (λ w. w.now) from.entry) ≡ true
+    ensures taken { (is_meant order_named (option_map (λ w. w.now) dates.entry)
+        && is_meant set_named (option_map (λ w. w.now) from.entry)) ≡ true
         → MatchResult result (λ _. ⊤) (λ refused. refused ≡ OutOfMemory) }
 {
     let order = order_given(alloc, dates)?;
