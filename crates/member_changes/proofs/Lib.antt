@@ -1,0 +1,5 @@
+pub mod EventFits
+pub mod FamilyFits
+pub mod Lists
+pub mod Members
+pub mod Stepping

@@ -1,0 +1,14 @@
+-- What one record changed leaves.
+use Rattle.std.specs.Prelude.{ℕ}
+use Rattle.std.specs.FinMap.{insert}
+use Rattle.receipts.specs.declared.answer.Answer.{Answer}
+use Rattle.record_kinds.specs.declared.record.Record.{Record}
+use Rattle.archive_state.specs.Content.{Content}
+
+-- all as it was, and nothing made
+abbrev pub as_before : Content → Content × Answer
+as_before c = (c, record { first = 0; count = 0 })
+
+-- another record at a number, and nothing made
+abbrev pub replaced : Content → ℕ → Record → Content × Answer
+replaced c n r = (record c { records = insert c.records n r }, record { first = 0; count = 0 })
