@@ -1,9 +1,9 @@
 //! Register entries: a batch or a table under a token, or a table that is only looked over.
 
-ghost use Rattle.std.specs.Prelude.{◌≡◌, ◌&&◌, IfOk, MatchResult, Some, ⊤, codes, option_map, true};
+ghost use Rattle.std.specs.Prelude.{◌≡◌, IfOk, MatchResult, Some, ⊤, codes, option_map, true};
 ghost use Rattle.clap.specs.Words.{found_of, rows_of};
-ghost use Rattle.command_line.specs.Asking.{AsksForWork, HasWords, IsMeant, is_fit, is_meant, name_of};
-ghost use Rattle.command_line.specs.Meanings.{order_named, set_named};
+ghost use Rattle.command_line.specs.Asking.{AsksForWork, HasForm, HasWords, IsMeant, is_fit, is_form_fit, is_meant, name_of};
+ghost use Rattle.command_line.specs.Meanings.{order_named};
 ghost use Rattle.command_line.specs.declared.tasks.Refused.TheVariants.{OutOfMemory};
 
 use crate::choosing::set_given;
@@ -28,7 +28,7 @@ pub(crate) fn entries_asked<'a>(alloc: Global, given: &ArgMatches<'a>) -> Result
     let file = word_of(given, "FILE");
     let source = number_of(word_of(given, "source"));
     if is_yes(word_of(given, "table")) {
-        let form = form_given(alloc, dates, from)?;
+        let form = form_given(alloc, given)?;
         if is_checked {
             return Ok(Asked::CheckTable { file, source, form });
         }
@@ -58,15 +58,13 @@ pub(crate) fn entries_asked<'a>(alloc: Global, given: &ArgMatches<'a>) -> Result
 }
 
 /// How a table is read, by two options. Refused where the word of one of them has no meaning.
-fn form_given(alloc: Global, dates: Option<&str>, from: Option<&str>) -> Result<TableWords, Refused>
-    ensures order { IfOk result (λ form. IsMeant order_named (option_map (λ w. w.now) dates.entry) form.order) }
-    ensures set { IfOk result (λ form. IsMeant set_named (option_map (λ w. w.now) from.entry) form.set) }
-    ensures taken { (is_meant order_named (option_map (λ w. w.now) dates.entry)
-        && is_meant set_named (option_map (λ w. w.now) from.entry)) ≡ true
+fn form_given<'a>(alloc: Global, given: &ArgMatches<'a>) -> Result<TableWords, Refused>
+    ensures form { IfOk result (HasForm (Some (codes "entries", rows_of (found_of given.now)))) }
+    ensures taken { is_form_fit (Some (codes "entries", rows_of (found_of given.now))) ≡ true
         → MatchResult result (λ _. ⊤) (λ refused. refused ≡ OutOfMemory) }
 {
-    let order = order_given(alloc, dates)?;
-    let set = set_given(alloc, from)?;
+    let order = order_given(alloc, given_word(given, "dates"))?;
+    let set = set_given(alloc, given_word(given, "from"))?;
     Ok(TableWords { set, order })
 }
 
