@@ -2,7 +2,16 @@
 
 ghost use Rattle.std.specs.Prelude.{◌≡◌, IfOk, MatchResult, Some, ⊤, codes, option_map, true};
 ghost use Rattle.clap.specs.Words.{found_of, rows_of};
-ghost use Rattle.command_line.specs.Asking.{AsksForWork, HasForm, HasWords, IsMeant, is_fit, is_form_fit, is_meant, name_of};
+ghost use Rattle.command_line.specs.Asking.{
+  AsksForWork,
+  HasForm,
+  HasWords,
+  IsMeant,
+  is_fit,
+  is_form_fit,
+  is_meant,
+  name_of,
+};
 ghost use Rattle.command_line.specs.Meanings.{order_named};
 ghost use Rattle.command_line.specs.declared.tasks.Refused.TheVariants.{OutOfMemory};
 
