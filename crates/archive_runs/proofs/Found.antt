@@ -114,7 +114,7 @@ use Rattle.tasks.specs.Moments.{Moment, Streams, at}
 use Rattle.tasks.specs.Parts.{Shelves}
 use Rattle.tasks.specs.Status.{Finishes, Outcome, Plain, as_text, placeless_text}
 use Rattle.tasks.specs.Stopping.{Concludes, Stopping, as_stopped}
-use Rattle.tasks.specs.Checking.{IsText}
+use Rattle.tasks.specs.Checking.{IsText as IsTableText}
 use Rattle.tasks.specs.Tables.{PageEntering, PrintsMade, SaysPage}
 use Rattle.tasks.specs.Texts.{made_text}
 use Rattle.tasks.proofs.Quiet.{refused_with_1}
@@ -572,11 +572,11 @@ module _ {R W F : Type 0} (reader : read.Ghosts R) (reads : device.Ghosts R) (wr
 
       -- the text of a table is that of the input
       page_of_input : (form : TableForm) (text : List ℕ) (r : Result (List PageEntry) PageFault)
-          → IsText form.set (reader.remaining x.input) text → page_of form.order text ≡ r
+          → IsTableText form.set (reader.remaining x.input) text → page_of form.order text ≡ r
           → page_of form.order (page_text form.set input) ≡ r
       page_of_input form text r are is =
           let same : text ≡ page_text form.set input =
-          (subst (λ (known : Option (List ℕ)). IsText form.set known text) s.reads are).0 in
+          (subst (λ (known : Option (List ℕ)). IsTableText form.set known text) s.reads are).0 in
           ap (page_of form.order) (sym same) ∙ is
 
       module _ (law : ArePerformed g) (token : List ℕ) (source : ℕ) (form : TableForm) where
@@ -611,7 +611,7 @@ module _ {R W F : Type 0} (reader : read.Ghosts R) (reads : device.Ghosts R) (wr
             (subst (λ (same : Outcome). Concludes faulter.contents fails.failed Tabling same status between y.faults) is
             finishes))
 
-        text_found : (o : Outcome) (text : List ℕ) → IsText form.set (reader.remaining x.input) text
+        text_found : (o : Outcome) (text : List ℕ) → IsTableText form.set (reader.remaining x.input) text
             → (r : PageEntering) → EntersPage over_files token source form.order text taken r new
             → SaysPage writer.contents writes.failed faulter.contents fails.failed o x.output y.output x.faults between
             r
