@@ -33,13 +33,18 @@ use Rattle.command_line.specs.Asking.{
   HasWords,
   IsMeant,
   IsTaken,
+  are_entries_fit,
   are_pages_fit,
   command_named,
+  given_in,
   is_batch_fit,
+  is_checked,
   is_fit,
   is_form_fit,
   is_listed,
   is_meant,
+  is_table,
+  is_table_fit,
   name_of,
 }
 use Rattle.command_line.specs.Meanings.{order_named, records_named, set_named}
@@ -111,6 +116,21 @@ tabled_there : {A : Type 0} (table checked fits meant : Bool) (token : Option A)
     → checked ≡ false → token ≡ Some given → meant ≡ true
     → (if table then ((checked || is_some token) && meant) else fits) ≡ true
 tabled_there table checked fits meant token given t none is fit = rw (t, none, is, fit) refl
+
+then_of : (test first other : Bool) → test ≡ true → (if test then first else other) ≡ true → first ≡ true
+then_of true first other is e = e
+then_of false first other is e = absurd cc
+
+right_of : (left right : Bool) → (left && right) ≡ true → right ≡ true
+right_of true right e = e
+right_of false right e = absurd cc
+
+-- where the words of a table are fit it is read in a way that is one
+pub form_fits : (found : Option (Text × List Row)) → is_table found ≡ true → are_entries_fit found ≡ true
+    → is_form_fit found ≡ true
+form_fits found is fit =
+    right_of (is_checked found || is_some (given_in found (codes "token"))) (is_form_fit found)
+    (then_of (is_table found) (is_table_fit found) (is_batch_fit found) is fit)
 
 pages_there : (found : Option (Text × List Row)) (pages : RoomPages) → HasPages found pages
     → are_pages_fit found ≡ true
