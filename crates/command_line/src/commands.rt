@@ -115,7 +115,7 @@ const ENTRIES: CommandRow = CommandRow {
     name: "entries",
     about: ENTRIES_ABOUT,
     example: ENTRIES_EXAMPLE,
-    words: &[FILE, SOURCE, MAYBE_TOKEN, TABLE, CHECKED, ORDER, SET],
+    words: &[FILE, SOURCE, MAYBE_TOKEN, TABLE, CHECKED, ORDER],
 };
 
 const IMPORT: CommandRow = CommandRow {

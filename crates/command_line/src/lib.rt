@@ -24,6 +24,4 @@ mod texts_out;
 mod words;
 
 pub use reading::read_words;
-pub use tasks::{
-    Asked, ListKind, OrderName, RecordKind, Refused, RoomPages, SetName, SheetKind, TableWords,
-};
+pub use tasks::{Asked, ListKind, OrderName, RecordKind, Refused, RoomPages, SetName, SheetKind};

@@ -164,11 +164,15 @@ fn work<S: Openable, R: Read + Device, W: Write + Device, F: FaultStream>(
         Asked::EnterTable {
             file,
             source,
-            form,
+            order,
             token,
-        } => enter_table(rt, file, token, source, form, start, input, output, faults),
-        Asked::CheckTable { file, source, form } => {
-            let task = table_task(source, form);
+        } => enter_table(rt, file, token, source, order, start, input, output, faults),
+        Asked::CheckTable {
+            file,
+            source,
+            order,
+        } => {
+            let task = table_task(source, order);
             do_task(rt, file, task, start, input, output, faults)
         }
         Asked::Import {

@@ -3,39 +3,29 @@
 ghost use Rattle.std.specs.Prelude.{◌≡◌, option_map};
 ghost use Rattle.parish.specs.Tables as tables;
 
-use crate::converting::asked;
-use command_line::{OrderName, TableWords};
+use command_line::OrderName;
 use page_entries::DateOrder;
 use receipts::Token;
-use tasks::{TableForm, Task};
+use tasks::Task;
 
-/// The table of the input, whose rows would be entries of a source, read as the words say.
-pub(crate) fn table_task(source: u32, words: TableWords) -> Task
-    ensures { result ≡ tables.table_task source words }
+/// The table of the input, whose rows would be entries of a source, with an order of dates where one is given.
+pub(crate) fn table_task(source: u32, dates: Option<OrderName>) -> Task
+    ensures { result ≡ tables.table_task source dates }
 {
     Task::CheckTable {
         source,
-        form: form_of(words),
+        order: order_given(dates),
     }
 }
 
 /// The same, entered under a token.
-pub(crate) fn entering_task(token: Token, source: u32, words: TableWords) -> Task
-    ensures { result ≡ tables.entering_task token source words }
+pub(crate) fn entering_task(token: Token, source: u32, dates: Option<OrderName>) -> Task
+    ensures { result ≡ tables.entering_task token source dates }
 {
     Task::EnterTable {
         token,
         source,
-        form: form_of(words),
-    }
-}
-
-fn form_of(words: TableWords) -> TableForm
-    ensures { result ≡ tables.form_of words }
-{
-    TableForm {
-        set: asked(words.set),
-        order: order_given(words.order),
+        order: order_given(dates),
     }
 }
 

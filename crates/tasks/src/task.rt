@@ -1,19 +1,9 @@
 //! What may be asked of an archive that is open.
 
 use archive_output::Sheet;
-use character_sets::CharacterSet;
 use page_entries::DateOrder;
 use receipts::Token;
 use record_lists::Listed;
-
-/// How a table is read.
-#[derive(Clone, Copy, Debug)]
-pub struct TableForm {
-    /// The character set of its file, if one is given; the mark of UTF-16 goes before it.
-    pub set: Option<CharacterSet>,
-    /// The order of a date of three numbers, if one is given.
-    pub order: Option<DateOrder>,
-}
 
 /// What is asked of an archive that is open. Days are counted from 1970-01-01, day 0.
 #[derive(Debug, Drop)]
@@ -27,17 +17,18 @@ pub enum Task {
         token: Token,
         source: u32,
     },
-    /// The table of the input as register entries of a source, under a token, all its rows or none.
+    /// The table of the input as register entries of a source, under a token, all its rows or none. Dates of three
+    /// numbers are in that order, where one is given.
     EnterTable {
         token: Token,
         source: u32,
-        form: TableForm,
+        order: Option<DateOrder>,
     },
     /// What is wrong or doubtful in the table of the input, whose rows would be register entries of a source, on the
-    /// output.
+    /// output. Dates of three numbers are in that order, where one is given.
     CheckTable {
         source: u32,
-        form: TableForm,
+        order: Option<DateOrder>,
     },
     /// The GEDCOM file of the input, whole or not at all, under a token. With `progress` the faults get how far it is.
     Import {
