@@ -25,6 +25,7 @@ LISTED = {
     ("list", "KIND"): ("choosing.rt", "LISTED"),
     ("find", "kind"): ("choosing.rt", "KINDS"),
     ("convert", "from"): ("choosing.rt", "SETS"),
+    ("entries", "from"): ("choosing.rt", "SETS"),
     ("completions", "SHELL"): ("choosing.rt", "SHELLS"),
 }
 

@@ -52,6 +52,21 @@ FOUND = (
         "doubt: Page: no page", "90 BadRow: Item: 0", "doubt: Date: words: once", "50 NoSuch: Place: Ashby",
         "92 FieldCount")),
 )
+NOT_UTF8 = '  save the sheet as "CSV UTF-8", or say --from 1252\n'
+# A row with letters that are not ASCII, its bytes in each character set of --from, and where other letters are read of
+# them, these. The bytes of ANSEL and the tables of code pages are those of the standards that FORMATS.md names.
+FOREIGN = "BURIAL,8,1,,Füßen,André,Zoë\n"
+IN_SETS = (
+    ("1252", b"BURIAL,8,1,,F\xfc\xdfen,Andr\xe9,Zo\xeb\n"),
+    ("437", b"BURIAL,8,1,,F\x81\xe1en,Andr\x82,Zo\x89\n"),
+    ("850", b"BURIAL,8,1,,F\x81\xe1en,Andr\x82,Zo\x89\n"),
+    ("macintosh", b"BURIAL,8,1,,F\x9f\xa7en,Andr\x8e,Zo\x91\n"),
+    ("ansel", b"BURIAL,8,1,,F\xe8u\xcfen,Andr\xe2e,Zo\xe8e\n"),
+    ("utf-8", FOREIGN.encode()),
+    ("utf-8", b"BURIAL,8,1,,F\xc3\xbc\xdfen,Andr\xe9,Zo\xc3\xab\n"),
+    ("utf-16le", FOREIGN.encode("utf-16-le")),
+    ("utf-16be", FOREIGN.encode("utf-16-be")),
+)
 # Inputs that are no table, and what standard error gets.
 UNREAD = (
     (b"", "98 MissingColumn at row 1\n  the column is missing: kind\n"),
@@ -62,7 +77,11 @@ UNREAD = (
      "  there are kind, page, item, date, place, text and roles, like godparent 2\n"),
     (b"kind,page,item, PAGE\n", "97 UnknownColumn at row 1\n  the column stands twice: PAGE\n"),
     (b"kind,page,item,buried\nBURIAL,8,1,Ann\n\nBURIAL,8,2,Andr\xe9\n",
-     '90 BadRow at row 4\n  not UTF-8: save the sheet as "CSV UTF-8"\n'),
+     "90 BadRow at row 4\n" + NOT_UTF8),
+    (b"\xff\xfe" + "kind,page,item,buried\nBURIAL,8,1,Ann\n".encode("utf-16-le")[:-1],
+     "90 BadRow at row 1\n" + NOT_UTF8),
+    (b"\xfe\xff" + "kind,page,item,buried\nBURIAL,8,1,Ann ".encode("utf-16-be") + b"\xd8\x00",
+     "90 BadRow at row 1\n" + NOT_UTF8),
     (b'kind,page,item,buried\nBURIAL,8,1,Ann\nBURIAL,8,2,"Tom\nBURIAL,8,3,Eva\n',
      "90 BadRow at row 3\n  a quote that begins there is not closed\n"),
 )
@@ -145,6 +164,35 @@ def what_a_spreadsheet_writes(tools):
             b"sep=|\nkind|page|item|buried 2\nBURIAL|8|1|Ann",
         ):
             expect(at.check(given), found(1, ()))
+
+
+def character_sets(tools):
+    """A page in each character set is that page in UTF-8, and has its digest; the mark of UTF-16 goes before --from."""
+    made = written(b"made 1 entries, first 6\n")
+    rows = (*ROWS[:1], "b,place,Füßen,1", *ROWS[2:])
+    foreign = FOREIGN.replace("Füßen", '"Füßen, Kent"')
+    with Checked(tools) as at:
+        at.with_rows(rows)
+        expect(at.enter((HEADER + foreign).encode()), made)
+        for mark, order in ((b"\xff\xfe", "le"), (b"\xfe\xff", "be")):
+            given = mark + (HEADER + foreign).encode(f"utf-16-{order}")
+            for words in ((), ("--from", "1252"), ("--from", "utf-8")):
+                expect(at.enter(given, *words), made)
+                expect(at.check(given, *words), found(1, ["row 2: 60 DuplicateEntry: BURIAL 8 1"]))
+    for name, row in IN_SETS:
+        wide = name.startswith("utf-16")
+        header = HEADER.encode(f"utf-16-{name[-2:]}" if wide else "ascii")
+        with Checked(tools) as at, Checked(tools) as plain:
+            expect(at.with_rows(rows).check(header + row, "--from", name),
+                   found(1, ["row 2: 50 NoSuch: Place: Füßen"]))
+            cell, place = "Füßen", "2"
+            if wide:
+                given = (header + row).replace(cell.encode(f"utf-16-{name[-2:]}"), place.encode(f"utf-16-{name[-2:]}"))
+            else:
+                given = header + row.replace(row.split(b",")[4], place.encode())
+            expect(at.enter(given, "--from", name), made)
+            expect(plain.with_rows(rows).enter((HEADER + FOREIGN.replace(cell, place)).encode()), made)
+            demand(at.tables() == plain.tables(), f"{name}: the tables are not those of the page in UTF-8")
 
 
 def no_table(tools):
@@ -276,6 +324,7 @@ TESTS = (
     a_page,
     orders_of_dates,
     what_a_spreadsheet_writes,
+    character_sets,
     no_table,
     refusals,
     no_archive,

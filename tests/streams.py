@@ -288,6 +288,15 @@ STREAMS = (
         refuses_words(b"'--check' cannot be used without '--table'", "entries", "a.db", "--source", "1", "--check"),
     ),
     (
+        "a character set of no table",
+        refuses_words(b"without '--table'", "entries", "a.db", "--source", "1", "--token", "t", "--from", "1252"),
+    ),
+    (
+        "a table in a character set that there is not",
+        refuses_words(
+            b"'latin' for '--from <SET>'", "entries", "a.db", "--source", "1", "--table", "--check", "--from", "latin"),
+    ),
+    (
         "dates of no table",
         refuses_words(b"without '--table'", "entries", "a.db", "--source", "1", "--token", "t", "--dates", "dmy"),
     ),

@@ -46,8 +46,8 @@ use Rattle.page_batches.specs.Batches.{rows_on}
 use Rattle.page_batches.specs.Words.{numbers_of}
 use Rattle.page_batches.specs.declared.rows.BatchRefusal.{BatchRefusal}
 use Rattle.page_entries.specs.Entries.{page_of}
-use Rattle.page_entries.specs.declared.dates.DateOrder.{DateOrder}
 use Rattle.page_entries.specs.declared.entries.PageEntry.{PageEntry}
+use Rattle.page_texts.specs.Texts.{page_text}
 use Rattle.table_pages.specs.declared.fault.PageFault.{PageFault}
 use Rattle.request_csv.specs.Batches.{ReadsBatch}
 use Rattle.request_csv.specs.Input.{AreFirstRows, AreRows, Row, row_bytes}
@@ -114,10 +114,11 @@ use Rattle.tasks.specs.Moments.{Moment, Streams, at}
 use Rattle.tasks.specs.Parts.{Shelves}
 use Rattle.tasks.specs.Status.{Finishes, Outcome, Plain, as_text, placeless_text}
 use Rattle.tasks.specs.Stopping.{Concludes, Stopping, as_stopped}
-use Rattle.tasks.specs.Checking.{AreRead}
+use Rattle.tasks.specs.Checking.{IsText as IsTableText}
 use Rattle.tasks.specs.Tables.{PageEntering, PrintsMade, SaysPage}
 use Rattle.tasks.specs.Texts.{made_text}
 use Rattle.tasks.proofs.Quiet.{refused_with_1}
+use Rattle.tasks.specs.declared.task.TableForm.{TableForm}
 use Rattle.tasks.specs.declared.task.Task.{Task}
 use Rattle.tasks.specs.declared.task.Task.TheVariants as task
 use Rattle.archive_runs.specs.Reading.{ReadsBack}
@@ -199,8 +200,8 @@ module _ {R W F : Type 0} (reader : read.Ghosts R) (reads : device.Ghosts R) (wr
   acts_none task.Apply c none never = inl (refl, none, never)
   acts_none task.ApplyUntilRefused c none never = inl (refl, none, never)
   acts_none (task.Entries token source) c none never = inl (refl, none, never)
-  acts_none (task.EnterTable token source order) c none never = inl (refl, none, never)
-  acts_none (task.CheckTable source order) c none never = refl
+  acts_none (task.EnterTable token source form) c none never = inl (refl, none, never)
+  acts_none (task.CheckTable source form) c none never = refl
   acts_none (task.Import token progress) c none never = inl (refl, none, never)
   acts_none task.Export c none never = (refl, λ done. absurd (never done))
   acts_none (task.ExportPublic today) c none never = refl
@@ -403,11 +404,12 @@ module _ {R W F : Type 0} (reader : read.Ghosts R) (reads : device.Ghosts R) (wr
           one_untold law Entering (batch_request token source b.0) made_text (acts_batch b.0 b.1) e b.2 none never
 
     -- ---- a page
-    module _ (law : ArePerformed g) (token : List ℕ) (source : ℕ) (order : Option DateOrder) where
+    module _ (law : ArePerformed g) (token : List ℕ) (source : ℕ) (form : TableForm) where
       abbrev Paging : Task
-      Paging = task.EnterTable token source order
+      Paging = task.EnterTable token source form
 
-      module _ (entries : List PageEntry) (reads_them : page_of order input ≡ Ok entries) where
+      module _ (entries : List PageEntry)
+          (reads_them : page_of form.order (page_text form.set input) ≡ Ok entries) where
         acts_page : (rows : List EntryRow) → rows_on c token source entries ≡ Ok rows → (kept : List Done)
             → KeepsNone (run Paging) kept
             ⊎ KeepsOne (run Paging) (page_request token source entries rows) made_text kept
@@ -568,33 +570,36 @@ module _ {R W F : Type 0} (reader : read.Ghosts R) (reads : device.Ghosts R) (wr
             (tells_part (task.Entries token source) (made_text part.0) part.4.written (undone finishes.0))
       ]
 
-      -- the bytes of a table are those of the input
-      page_of_input : (order : Option DateOrder) (bytes : List ℕ) (r : Result (List PageEntry) PageFault)
-          → AreRead (reader.remaining x.input) bytes → page_of order bytes ≡ r → page_of order input ≡ r
-      page_of_input order bytes r are is =
-          let same : bytes ≡ input = (subst (λ (known : Option (List ℕ)). AreRead known bytes) s.reads are).0 in
-          ap (page_of order) (sym same) ∙ is
+      -- the text of a table is that of the input
+      page_of_input : (form : TableForm) (text : List ℕ) (r : Result (List PageEntry) PageFault)
+          → IsTableText form.set (reader.remaining x.input) text → page_of form.order text ≡ r
+          → page_of form.order (page_text form.set input) ≡ r
+      page_of_input form text r are is =
+          let same : text ≡ page_text form.set input =
+          (subst (λ (known : Option (List ℕ)). IsTableText form.set known text) s.reads are).0 in
+          ap (page_of form.order) (sym same) ∙ is
 
-      module _ (law : ArePerformed g) (token : List ℕ) (source : ℕ) (order : Option DateOrder) where
+      module _ (law : ArePerformed g) (token : List ℕ) (source : ℕ) (form : TableForm) where
         abbrev Tabling : Task
-        Tabling = task.EnterTable token source order
+        Tabling = task.EnterTable token source form
 
         -- where it is refused nothing was printed
         page_refused : new ≡ taken → y.output ≡ x.output → ¬ (HasDone ended) → FoundIn Tabling society c left
         page_refused same unwritten never = keeps_none Tabling society c left
             (acts_none Tabling c (nothing_told (unprinted unwritten)) never) (inl (same_archive same))
 
-        page_entered : (o : Outcome) (answer : Answer) (entries : List PageEntry) → page_of order input ≡ Ok entries
+        page_entered : (o : Outcome) (answer : Answer) (entries : List PageEntry)
+            → page_of form.order (page_text form.set input) ≡ Ok entries
             → EntersEntries over_files token source entries taken (Ok answer) new
             → PrintsMade writer.contents writes.failed faulter.contents fails.failed o x.output y.output x.faults
             between answer
             → Concludes faulter.contents fails.failed Tabling o status between y.faults
             → FoundIn Tabling society c left
         page_entered (Ok done) answer entries read enters prints finishes =
-            page_told law token source order entries read answer enters
+            page_told law token source form entries read answer enters
             (tells Tabling (made_text answer) prints.printed)
         page_entered (Err t) answer entries read enters prints finishes =
-            page_told law token source order entries read answer enters
+            page_told law token source form entries read answer enters
             (tells_part Tabling (made_text answer) prints.part.2.written
             (undone (refused_with_1 faulter.contents fails.failed Tabling t status between y.faults finishes)))
 
@@ -606,30 +611,30 @@ module _ {R W F : Type 0} (reader : read.Ghosts R) (reads : device.Ghosts R) (wr
             (subst (λ (same : Outcome). Concludes faulter.contents fails.failed Tabling same status between y.faults) is
             finishes))
 
-        bytes_found : (o : Outcome) (bytes : List ℕ) → AreRead (reader.remaining x.input) bytes → (r : PageEntering)
-            → EntersPage over_files token source order bytes taken r new
+        text_found : (o : Outcome) (text : List ℕ) → IsTableText form.set (reader.remaining x.input) text
+            → (r : PageEntering) → EntersPage over_files token source form.order text taken r new
             → SaysPage writer.contents writes.failed faulter.contents fails.failed o x.output y.output x.faults between
             r
             → Concludes faulter.contents fails.failed Tabling o status between y.faults
             → FoundIn Tabling society c left
-        bytes_found o bytes are (Ok (Entered answer words)) did says finishes =
-            page_entered o answer did.0 (page_of_input order bytes _ are did.1) did.2.1 says.0 finishes
-        bytes_found o bytes are (Ok (Unread fault)) did (inl bad, unwritten) finishes =
+        text_found o text are (Ok (Entered answer words)) did says finishes =
+            page_entered o answer did.0 (page_of_input form text _ are did.1) did.2.1 says.0 finishes
+        text_found o text are (Ok (Unread fault)) did (inl bad, unwritten) finishes =
             page_refused did.1 unwritten (never_done o _ bad.0 finishes)
-        bytes_found o bytes are (Ok (Unread fault)) did (inr want, unwritten) finishes =
+        text_found o text are (Ok (Unread fault)) did (inr want, unwritten) finishes =
             page_refused did.1 unwritten (never_done o _ want.0 finishes)
-        bytes_found o bytes are (Err e) (inl want) says finishes =
+        text_found o text are (Err e) (inl want) says finishes =
             page_refused want.1 says.2 (never_done o _ says.0 finishes)
-        bytes_found o bytes are (Err e) (inr did) says finishes =
-            page_untold law token source order did.0 (page_of_input order bytes _ are did.1) e did.2
+        text_found o text are (Err e) (inr did) says finishes =
+            page_untold law token source form did.0 (page_of_input form text _ are did.1) e did.2
             (nothing_told (unprinted says.2)) (never_done o _ says.0 finishes)
 
         table_found : (o : Outcome)
-            → EntersTable over_files reader reads writer writes faulter fails Before After token source order o
+            → EntersTable over_files reader reads writer writes faulter fails Before After token source form o
             → Concludes faulter.contents fails.failed Tabling o status between y.faults
             → FoundIn Tabling society c left
         table_found o (inl none) finishes = page_refused none.3 none.4 (never_done o _ none.1 finishes)
-        table_found o (inr did) finishes = bytes_found o did.0 did.1 did.2.0 did.2.1 did.2.2 finishes
+        table_found o (inr did) finishes = text_found o did.0 did.1 did.2.0 did.2.1 did.2.2 finishes
 
       import_found : ArePerformed g → (token : List ℕ) (progress : Bool) (o : Outcome)
           → ImportsFile over_files reader reads writer writes faulter fails Before After token o
@@ -734,11 +739,11 @@ module _ {R W F : Type 0} (reader : read.Ghosts R) (reads : device.Ghosts R) (wr
           let had_it = (held.has read.0 society c tables holds had).0 in
           (had_it.0, (read.1 had_it.0 c had_it.1 (seen_of had_it.2)).1 left may, had_it.2)
 
-      table_checked : (source : ℕ) (order : Option DateOrder) (o : Outcome)
-          → ChecksTable over_files reader reads writer writes faulter fails Before After source order o
+      table_checked : (source : ℕ) (form : TableForm) (o : Outcome)
+          → ChecksTable over_files reader reads writer writes faulter fails Before After source form o
           → IsArchive society c left
-      table_checked source order o (inl none) = same_archive none.3
-      table_checked source order o (inr did) =
+      table_checked source form o (inl none) = same_archive none.3
+      table_checked source form o (inr did) =
           let read = did.2.ended clean in
           let had_it = (held.has read.0 society c tables holds had).0 in
           (had_it.0, (read.1 had_it.0 c had_it.1 (seen_of had_it.2)).1 left may, had_it.2)
@@ -757,10 +762,10 @@ module _ {R W F : Type 0} (reader : read.Ghosts R) (reads : device.Ghosts R) (wr
           between y.faults) did.0.1 finishes)
       found_by law back (task.Entries token source) o shown did finishes =
           enter_found law token source o did.0 finishes
-      found_by law back (task.EnterTable token source order) o shown did finishes =
-          table_found law token source order o did.0 finishes
-      found_by law back (task.CheckTable source order) o shown did finishes =
-          keeps_none (task.CheckTable source order) society c left refl (inl (table_checked source order o did.0))
+      found_by law back (task.EnterTable token source form) o shown did finishes =
+          table_found law token source form o did.0 finishes
+      found_by law back (task.CheckTable source form) o shown did finishes =
+          keeps_none (task.CheckTable source form) society c left refl (inl (table_checked source form o did.0))
       found_by law back (task.Import token progress) o shown did finishes =
           import_found law token progress o did.0 finishes
       found_by law back task.Export o shown did finishes =

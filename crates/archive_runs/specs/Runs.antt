@@ -24,9 +24,10 @@ use Rattle.archive_input.specs.Stopping.{AreAccepted, IsUpToRefusal}
 use Rattle.archive_pages.specs.Entering.{page_request}
 use Rattle.page_batches.specs.Batches.{rows_on}
 use Rattle.page_entries.specs.Entries.{page_of}
-use Rattle.page_entries.specs.declared.dates.DateOrder.{DateOrder}
 use Rattle.page_entries.specs.declared.entries.PageEntry.{PageEntry}
+use Rattle.page_texts.specs.Texts.{page_text}
 use Rattle.tasks.specs.Texts.{made_text}
+use Rattle.tasks.specs.declared.task.TableForm.{TableForm}
 use Rattle.tasks.specs.declared.task.Task.{Task}
 use Rattle.tasks.specs.declared.task.Task.TheVariants as task
 use Rattle.archive_runs.specs.Reading.{ReadsBack}
@@ -85,8 +86,9 @@ KeepsBatch token source run kept = (rows : List EntryRow) × ReadsBatch (row_byt
     × KeepsOne run (batch_request token source rows) made_text kept
 
 -- the entries of the page of the input are kept, all of them, with the places that the archive had
-abbrev pub KeepsPage : Content → List ℕ → ℕ → Option DateOrder → Run → List Done → Type 0
-KeepsPage c token source order run kept = (entries : List PageEntry) × (page_of order run.input ≡ Ok entries)
+abbrev pub KeepsPage : Content → List ℕ → ℕ → TableForm → Run → List Done → Type 0
+KeepsPage c token source form run kept = (entries : List PageEntry)
+    × (page_of form.order (page_text form.set run.input) ≡ Ok entries)
     × (rows : List EntryRow) × (rows_on c token source entries ≡ Ok rows)
     × KeepsOne run (page_request token source entries rows) made_text kept
 
@@ -101,8 +103,8 @@ abbrev pub Acts : Content → Option Task → Run → List Done → Type 0
 Acts c (Some task.Apply) run kept = KeepsNone run kept ⊎ KeepsRows c run kept
 Acts c (Some task.ApplyUntilRefused) run kept = KeepsNone run kept ⊎ KeepsUntilRefused c run kept
 Acts c (Some (task.Entries token source)) run kept = KeepsNone run kept ⊎ KeepsBatch token source run kept
-Acts c (Some (task.EnterTable token source order)) run kept =
-    KeepsNone run kept ⊎ KeepsPage c token source order run kept
+Acts c (Some (task.EnterTable token source form)) run kept =
+    KeepsNone run kept ⊎ KeepsPage c token source form run kept
 Acts c (Some (task.Import token progress)) run kept = KeepsNone run kept ⊎ KeepsFile token run kept
 Acts c (Some task.Export) run kept = (kept ≡ []) × (IsDone run → ReadsBack c run.written)
 Acts c _ run kept = kept ≡ []

@@ -28,15 +28,23 @@ use Rattle.std.specs.Prelude.{IfOk, IfSome, IsSome, if◌then◌else◌, not, un
 use Rattle.clap.specs.Words.{Row, Text, fault_of, subcommand_of}
 use Rattle.command_line.specs.Asking.{
   Asks,
+  HasForm,
   HasPages,
   HasWords,
   IsMeant,
   IsTaken,
+  are_entries_fit,
   are_pages_fit,
   command_named,
+  given_in,
+  is_batch_fit,
+  is_checked,
   is_fit,
+  is_form_fit,
   is_listed,
   is_meant,
+  is_table,
+  is_table_fit,
   name_of,
 }
 use Rattle.command_line.specs.Meanings.{order_named, records_named, set_named}
@@ -47,6 +55,7 @@ use Rattle.command_line.specs.declared.tasks.ListKind.{ListKind}
 use Rattle.command_line.specs.declared.tasks.Refused.{Refused}
 use Rattle.command_line.specs.declared.tasks.RoomPages.{RoomPages}
 use Rattle.command_line.specs.declared.tasks.RoomPages.TheVariants.{Html, Plain}
+use Rattle.command_line.specs.declared.tasks.TableWords.{TableWords}
 
 at_name : (found : Option (Text × List Row)) (n : Text) → option_map (λ f. f.0) found ≡ Some n
     → (rows : List Row) × (found ≡ Some (n, rows))
@@ -90,10 +99,14 @@ list_there : (o : Option ListKind) (kind : ListKind) (source given : Option ℕ)
     → is_listed kind source ≡ true → option_map_or (λ k. is_listed k given) o false ≡ true
 list_there o kind source given e is listed = rw e (subst (λ (s : Option ℕ). is_listed kind s ≡ true) is listed)
 
-batch_there : {A B : Type 0} (table checked fits : Bool) (token : Option A) (dates : Option B) (t : A)
-    → table ≡ false → checked ≡ false → token ≡ Some t → dates ≡ None
-    → (if table then fits else (is_some token && (not checked && not (is_some dates)))) ≡ true
-batch_there table checked fits token dates t f g e none = rw (f, g, e, none) refl
+batch_there : {A B C : Type 0} (table checked fits : Bool) (token : Option A) (dates : Option B) (set : Option C)
+    (t : A) → table ≡ false → checked ≡ false → token ≡ Some t → dates ≡ None → set ≡ None
+    → (if table then fits else (is_some token && (not checked && (not (is_some dates) && not (is_some set))))) ≡ true
+batch_there table checked fits token dates set t f g e none no_set = rw (f, g, e, none, no_set) refl
+
+form_there : (found : Option (Text × List Row)) (form : TableWords) → HasForm found form → is_form_fit found ≡ true
+form_there found form has =
+    both_true _ _ (meant_there order_named _ form.order has.0) (meant_there set_named _ form.set has.1)
 
 table_there : {A : Type 0} (table checked fits meant : Bool) (token : Option A) → table ≡ true → checked ≡ true
     → meant ≡ true → (if table then ((checked || is_some token) && meant) else fits) ≡ true
@@ -103,6 +116,21 @@ tabled_there : {A : Type 0} (table checked fits meant : Bool) (token : Option A)
     → checked ≡ false → token ≡ Some given → meant ≡ true
     → (if table then ((checked || is_some token) && meant) else fits) ≡ true
 tabled_there table checked fits meant token given t none is fit = rw (t, none, is, fit) refl
+
+then_of : (test first other : Bool) → test ≡ true → (if test then first else other) ≡ true → first ≡ true
+then_of true first other is e = e
+then_of false first other is e = absurd cc
+
+right_of : (left right : Bool) → (left && right) ≡ true → right ≡ true
+right_of true right e = e
+right_of false right e = absurd cc
+
+-- where the words of a table are fit it is read in a way that is one
+pub form_fits : (found : Option (Text × List Row)) → is_table found ≡ true → are_entries_fit found ≡ true
+    → is_form_fit found ≡ true
+form_fits found is fit =
+    right_of (is_checked found || is_some (given_in found (codes "token"))) (is_form_fit found)
+    (then_of (is_table found) (is_table_fit found) (is_batch_fit found) is fit)
 
 pages_there : (found : Option (Text × List Row)) (pages : RoomPages) → HasPages found pages
     → are_pages_fit found ≡ true
@@ -124,13 +152,15 @@ fit_of (asked.Apply file stops) found e has some =
     fit_by (asked.Apply file stops) found (codes "apply") e has (λ rows words. refl)
 fit_of (asked.Entries file source token) found e has some =
     fit_by (asked.Entries file source token) found (codes "entries") e has
-    (λ rows words. batch_there _ _ _ _ _ token.now words.3 words.4 words.2 words.5)
-fit_of (asked.EnterTable file source order token) found e has some =
-    fit_by (asked.EnterTable file source order token) found (codes "entries") e has
-    (λ rows words. tabled_there _ _ _ _ _ token.now words.2 words.3 words.5 (meant_there order_named _ order words.4))
-fit_of (asked.CheckTable file source order) found e has some =
-    fit_by (asked.CheckTable file source order) found (codes "entries") e has
-    (λ rows words. table_there _ _ _ _ _ words.2 words.3 (meant_there order_named _ order words.4))
+    (λ rows words. batch_there _ _ _ _ _ _ token.now words.3 words.4 words.2 words.5 words.6)
+fit_of (asked.EnterTable file source form token) found e has some =
+    fit_by (asked.EnterTable file source form token) found (codes "entries") e has
+    (λ rows words. tabled_there _ _ (is_batch_fit (Some (codes "entries", rows))) _ _ token.now words.2 words.4 words.5
+    (form_there (Some (codes "entries", rows)) form words.3))
+fit_of (asked.CheckTable file source form) found e has some =
+    fit_by (asked.CheckTable file source form) found (codes "entries") e has
+    (λ rows words. table_there _ _ (is_batch_fit (Some (codes "entries", rows))) _ _ words.2 words.4
+    (form_there (Some (codes "entries", rows)) form words.3))
 fit_of (asked.Import file token progress) found e has some =
     fit_by (asked.Import file token progress) found (codes "import") e has (λ rows words. refl)
 fit_of (asked.Export file) found e has some =

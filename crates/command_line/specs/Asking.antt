@@ -87,6 +87,7 @@ use Rattle.command_line.specs.declared.tasks.Refused.TheVariants.{OutOfMemory}
 use Rattle.command_line.specs.declared.tasks.RoomPages.{RoomPages}
 use Rattle.command_line.specs.declared.tasks.RoomPages.TheVariants.{Html, Plain}
 use Rattle.command_line.specs.declared.tasks.SheetKind.{SheetKind}
+use Rattle.command_line.specs.declared.tasks.TableWords.{TableWords}
 
 -- the command that words name, the program's name being the first
 abbrev pub command_named : List Text → Option Text
@@ -101,8 +102,8 @@ name_of (Convert from) = Some (codes "convert")
 name_of (Init file society) = Some (codes "init")
 name_of (Apply file stops) = Some (codes "apply")
 name_of (EntriesAsked file source token) = Some (codes "entries")
-name_of (EnterTable file source order token) = Some (codes "entries")
-name_of (CheckTable file source order) = Some (codes "entries")
+name_of (EnterTable file source form token) = Some (codes "entries")
+name_of (CheckTable file source form) = Some (codes "entries")
 name_of (Import file token progress) = Some (codes "import")
 name_of (Export file) = Some (codes "export")
 name_of (ExportPublic file today) = Some (codes "export")
@@ -209,6 +210,11 @@ abbrev pub HasPages : Option (Text × List Row) → RoomPages → Type 0
 HasPages found Plain = (is_html found ≡ false) × (given_in found (codes "host") ≡ None)
 HasPages found (Html host) = (is_html found ≡ true) × (option_map string_bytes host ≡ given_in found (codes "host"))
 
+-- a table is read as the options say
+abbrev pub HasForm : Option (Text × List Row) → TableWords → Type 0
+HasForm found form = IsMeant order_named (given_in found (codes "dates")) form.order
+    × IsMeant set_named (given_in found (codes "from")) form.set
+
 -- what is asked for has the words that the command is given
 abbrev pub HasWords : Option (Text × List Row) → Asked → Type 0
 HasWords found Check = is_all found ≡ false
@@ -220,14 +226,14 @@ HasWords found (Apply file stops) = (file.now ≡ word_in found (codes "FILE")) 
 HasWords found (EntriesAsked file source token) =
     (file.now ≡ word_in found (codes "FILE")) × (source ≡ number_of (word_in found (codes "source")))
     × (given_in found (codes "token") ≡ Some token.now) × (is_table found ≡ false) × (is_checked found ≡ false)
-    × (given_in found (codes "dates") ≡ None)
-HasWords found (EnterTable file source order token) =
+    × (given_in found (codes "dates") ≡ None) × (given_in found (codes "from") ≡ None)
+HasWords found (EnterTable file source form token) =
     (file.now ≡ word_in found (codes "FILE")) × (source ≡ number_of (word_in found (codes "source")))
-    × (is_table found ≡ true) × (is_checked found ≡ false) × IsMeant order_named (given_in found (codes "dates")) order
+    × (is_table found ≡ true) × HasForm found form × (is_checked found ≡ false)
     × (given_in found (codes "token") ≡ Some token.now)
-HasWords found (CheckTable file source order) =
+HasWords found (CheckTable file source form) =
     (file.now ≡ word_in found (codes "FILE")) × (source ≡ number_of (word_in found (codes "source")))
-    × (is_table found ≡ true) × (is_checked found ≡ true) × IsMeant order_named (given_in found (codes "dates")) order
+    × (is_table found ≡ true) × HasForm found form × (is_checked found ≡ true)
 HasWords found (Import file token progress) =
     (file.now ≡ word_in found (codes "FILE")) × (token.now ≡ word_in found (codes "token"))
     × (progress ≡ is_told found)
@@ -305,12 +311,17 @@ is_search_fit found =
 -- a batch has a token, and no word of tables
 abbrev pub is_batch_fit : Option (Text × List Row) → Bool
 is_batch_fit found = is_some (given_in found (codes "token"))
-    && (not (is_checked found) && not (is_some (given_in found (codes "dates"))))
+    && (not (is_checked found)
+    && (not (is_some (given_in found (codes "dates"))) && not (is_some (given_in found (codes "from")))))
 
--- a table is checked, and then a token is not looked at, or it has a token; where an order of dates is given it is one
+-- where an order of dates is given it is one, and where a character set is given it is one
+abbrev pub is_form_fit : Option (Text × List Row) → Bool
+is_form_fit found =
+    is_meant order_named (given_in found (codes "dates")) && is_meant set_named (given_in found (codes "from"))
+
+-- a table is checked, and then a token is not looked at, or it has a token; and it is read in a way that is one
 abbrev pub is_table_fit : Option (Text × List Row) → Bool
-is_table_fit found = (is_checked found || is_some (given_in found (codes "token")))
-    && is_meant order_named (given_in found (codes "dates"))
+is_table_fit found = (is_checked found || is_some (given_in found (codes "token"))) && is_form_fit found
 
 abbrev pub are_entries_fit : Option (Text × List Row) → Bool
 are_entries_fit found = if is_table found then is_table_fit found else is_batch_fit found

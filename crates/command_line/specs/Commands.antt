@@ -202,7 +202,7 @@ apply_shape = record (new_shape (codes "apply")) { rules = file_rule ∷ stop_ru
 
 abbrev pub entries_shape : Shape
 entries_shape = record (new_shape (codes "entries")) {
-  rules = file_rule ∷ source_rule ∷ maybe_token_rule ∷ table_rule ∷ checked_rule ∷ order_rule ∷ [];
+  rules = file_rule ∷ source_rule ∷ maybe_token_rule ∷ table_rule ∷ checked_rule ∷ order_rule ∷ set_rule ∷ [];
 }
 
 abbrev pub import_shape : Shape

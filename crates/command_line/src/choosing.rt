@@ -26,12 +26,12 @@ ghost use Rattle.command_line.specs.Asking.{
   is_of_source,
   name_of,
 };
-ghost use Rattle.command_line.specs.Meanings.{is_searched, records_named, search_words};
+ghost use Rattle.command_line.specs.Meanings.{is_searched, records_named, search_words, set_named};
 ghost use Rattle.command_line.specs.declared.tasks.Refused.TheVariants.{OutOfMemory};
 
 use crate::refusing::{no_entries, no_value, no_word};
 use crate::shells::completions_of;
-use crate::tasks::{Asked, ListKind, RecordKind, Refused};
+use crate::tasks::{Asked, ListKind, RecordKind, Refused, SetName};
 use crate::words::{
     given_number, given_word, is_yes, list_named, number_of, numbers_of, records_named, set_named,
     word_of, words_of,
@@ -46,11 +46,21 @@ pub(crate) fn convert_asked<'a>(alloc: Global, given: &ArgMatches<'a>) -> Result
     ensures words { IfOk result (HasWords (Some (codes "convert", rows_of (found_of given.now)))) }
     ensures taken { is_fit (Some (codes "convert", rows_of (found_of given.now))) ≡ true → AsksForWork result }
 {
-    let Some(word) = given_word(given, "from") else {
-        return Ok(Asked::Convert { from: None });
+    let from = set_given(alloc, given_word(given, "from"))?;
+    Ok(Asked::Convert { from })
+}
+
+/// The character set of an option. Refused where its word is none.
+pub(crate) fn set_given(alloc: Global, word: Option<&str>) -> Result<Option<SetName>, Refused>
+    ensures set { IfOk result (IsMeant set_named (option_map (λ w. w.now) word.entry)) }
+    ensures taken { is_meant set_named (option_map (λ w. w.now) word.entry) ≡ true
+        → MatchResult result (λ _. ⊤) (λ refused. refused ≡ OutOfMemory) }
+{
+    let Some(word) = word else {
+        return Ok(None);
     };
     match set_named(word) {
-        Some(set) => Ok(Asked::Convert { from: Some(set) }),
+        Some(set) => Ok(Some(set)),
         None => Err(no_value(alloc, word, "--from <SET>", SETS)),
     }
 }

@@ -115,7 +115,7 @@ const ENTRIES: CommandRow = CommandRow {
     name: "entries",
     about: ENTRIES_ABOUT,
     example: ENTRIES_EXAMPLE,
-    words: &[FILE, SOURCE, MAYBE_TOKEN, TABLE, CHECKED, ORDER],
+    words: &[FILE, SOURCE, MAYBE_TOKEN, TABLE, CHECKED, ORDER, SET],
 };
 
 const IMPORT: CommandRow = CommandRow {

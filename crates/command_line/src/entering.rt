@@ -2,19 +2,29 @@
 
 ghost use Rattle.std.specs.Prelude.{◌≡◌, IfOk, MatchResult, Some, ⊤, codes, option_map, true};
 ghost use Rattle.clap.specs.Words.{found_of, rows_of};
-ghost use Rattle.command_line.specs.Asking.{AsksForWork, HasWords, IsMeant, is_fit, is_meant, name_of};
+ghost use Rattle.command_line.specs.Asking.{
+  AsksForWork,
+  HasForm,
+  HasWords,
+  IsMeant,
+  is_fit,
+  is_form_fit,
+  is_meant,
+  name_of,
+};
 ghost use Rattle.command_line.specs.Meanings.{order_named};
 ghost use Rattle.command_line.specs.declared.tasks.Refused.TheVariants.{OutOfMemory};
 
+use crate::choosing::set_given;
 use crate::refusing::{no_table, no_table_token, no_token, no_value};
-use crate::tasks::{Asked, OrderName, Refused};
+use crate::tasks::{Asked, OrderName, Refused, TableWords};
 use crate::words::{given_word, is_yes, number_of, order_named, word_of};
 use clap::ArgMatches;
 use std::alloc::Global;
 
 /// `entries`: a batch under a token, with `--table` a table under a token, or with `--check` too a table that is looked
-/// over. Refused where a batch has no token or a word of tables, and where a table that is not checked has no token or
-/// the order of its dates is none.
+/// over. Refused where a batch has no token or a word of tables, and where a table that is not checked has no token, or
+/// its character set or the order of its dates is none.
 pub(crate) fn entries_asked<'a>(alloc: Global, given: &ArgMatches<'a>) -> Result<Asked<'a>, Refused>
     ensures asked { IfOk result (λ a. name_of a ≡ Some (codes "entries")) }
     ensures words { IfOk result (HasWords (Some (codes "entries", rows_of (found_of given.now)))) }
@@ -22,17 +32,14 @@ pub(crate) fn entries_asked<'a>(alloc: Global, given: &ArgMatches<'a>) -> Result
 {
     let is_checked = is_yes(word_of(given, "check"));
     let dates = given_word(given, "dates");
+    let from = given_word(given, "from");
     let token = given_word(given, "token");
     let file = word_of(given, "FILE");
     let source = number_of(word_of(given, "source"));
     if is_yes(word_of(given, "table")) {
-        let order = order_given(alloc, dates)?;
+        let form = form_given(alloc, given)?;
         if is_checked {
-            return Ok(Asked::CheckTable {
-                file,
-                source,
-                order,
-            });
+            return Ok(Asked::CheckTable { file, source, form });
         }
         let Some(token) = token else {
             return Err(no_table_token(alloc));
@@ -40,22 +47,34 @@ pub(crate) fn entries_asked<'a>(alloc: Global, given: &ArgMatches<'a>) -> Result
         return Ok(Asked::EnterTable {
             file,
             source,
-            order,
+            form,
             token,
         });
     }
     if is_checked {
         return Err(no_table(alloc, "--check"));
     }
-    match (token, dates) {
-        (Some(token), None) => Ok(Asked::Entries {
+    match (token, dates, from) {
+        (Some(token), None, None) => Ok(Asked::Entries {
             file,
             source,
             token,
         }),
-        (_, Some(_)) => Err(no_table(alloc, "--dates <ORDER>")),
-        (None, None) => Err(no_token(alloc)),
+        (_, Some(_), _) => Err(no_table(alloc, "--dates <ORDER>")),
+        (_, None, Some(_)) => Err(no_table(alloc, "--from <SET>")),
+        (None, None, None) => Err(no_token(alloc)),
     }
+}
+
+/// How a table is read, by two options. Refused where the word of one of them has no meaning.
+fn form_given<'a>(alloc: Global, given: &ArgMatches<'a>) -> Result<TableWords, Refused>
+    ensures form { IfOk result (HasForm (Some (codes "entries", rows_of (found_of given.now)))) }
+    ensures taken { is_form_fit (Some (codes "entries", rows_of (found_of given.now))) ≡ true
+        → MatchResult result (λ _. ⊤) (λ refused. refused ≡ OutOfMemory) }
+{
+    let order = order_given(alloc, given_word(given, "dates"))?;
+    let set = set_given(alloc, given_word(given, "from"))?;
+    Ok(TableWords { set, order })
 }
 
 /// The order of dates of an option. Refused where its word is none.

@@ -24,4 +24,6 @@ mod texts_out;
 mod words;
 
 pub use reading::read_words;
-pub use tasks::{Asked, ListKind, OrderName, RecordKind, Refused, RoomPages, SetName, SheetKind};
+pub use tasks::{
+    Asked, ListKind, OrderName, RecordKind, Refused, RoomPages, SetName, SheetKind, TableWords,
+};

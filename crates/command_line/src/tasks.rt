@@ -36,20 +36,19 @@ pub enum Asked<'a> {
         token: &'a str,
     },
     /// `entries --table`: the rows of the table of standard input as new register entries of a source of the archive in
-    /// a file, under a token, which may be any word. Dates of three numbers are in that order, where one is given.
+    /// a file, under a token, which may be any word.
     EnterTable {
         file: &'a str,
         source: u32,
-        order: Option<OrderName>,
+        form: TableWords,
         token: &'a str,
     },
     /// `entries --table --check`: what is wrong or doubtful in the table of standard input, whose rows would be
-    /// register entries of a source of the archive in a file, on standard output. Dates of three numbers are in that
-    /// order, where one is given.
+    /// register entries of a source of the archive in a file, on standard output.
     CheckTable {
         file: &'a str,
         source: u32,
-        order: Option<OrderName>,
+        form: TableWords,
     },
     /// `import`: the file of standard input taken into the archive in a file, under a token, and its report on standard
     /// output. The token may be any word. With `progress` standard error says how far it is.
@@ -228,6 +227,15 @@ pub enum OrderName {
     DayFirst,
     /// `mdy`: month, day and year.
     MonthFirst,
+}
+
+/// How a table is read.
+#[derive(Clone, Copy, Debug)]
+pub struct TableWords {
+    /// `--from`: the character set of its file, if one is given.
+    pub set: Option<SetName>,
+    /// `--dates`: the order of dates of three numbers, if one is given.
+    pub order: Option<OrderName>,
 }
 
 /// Why a command line asks for nothing.

@@ -21,7 +21,7 @@ columns_line = hint_line (codes "there are kind, page, item, date, place, text a
 
 -- what was found, and what to do
 abbrev pub hint : FaultKind → List ℕ → List ℕ
-hint kind.NotUtf8 name = hint_line (codes "not UTF-8: save the sheet as \"CSV UTF-8\"") []
+hint kind.NotUtf8 name = hint_line (codes "save the sheet as \"CSV UTF-8\", or say --from 1252") []
 hint kind.OpenQuote name = hint_line (codes "a quote that begins there is not closed") []
 hint kind.UnknownColumn name = hint_line (codes "no such column: ") name ++ columns_line
 hint kind.RepeatedColumn name = hint_line (codes "the column stands twice: ") name

@@ -33,7 +33,7 @@ fn push_hint(alloc: Global, out: &mut String, kind: FaultKind, name: &str) -> Re
         FaultKind::NotUtf8 => push_line(
             alloc,
             out,
-            "not UTF-8: save the sheet as \"CSV UTF-8\"",
+            "save the sheet as \"CSV UTF-8\", or say --from 1252",
             "",
         ),
         FaultKind::OpenQuote => push_line(

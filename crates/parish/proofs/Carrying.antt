@@ -122,10 +122,10 @@ module _ {R W F D S : Type 0} {g : disk.Ghosts D} (reader : read.Ghosts R) (read
           let t = apply_task stops in ((Some t, refl, performs t did), tt)
       is_run (asked.Entries file source token) did =
           let t = task.Entries token.now source in ((Some t, refl, under token.now t did), tt)
-      is_run (asked.EnterTable file source order token) did =
-          let t = entering_task token.now source order in ((Some t, refl, under token.now t did), tt)
-      is_run (asked.CheckTable file source order) did =
-          let t = table_task source order in ((Some t, refl, performs t did), tt)
+      is_run (asked.EnterTable file source form token) did =
+          let t = entering_task token.now source form in ((Some t, refl, under token.now t did), tt)
+      is_run (asked.CheckTable file source form) did =
+          let t = table_task source form in ((Some t, refl, performs t did), tt)
       is_run (asked.Import file token progress) did =
           let t = task.Import token.now progress in ((Some t, refl, under token.now t did), tt)
       is_run (asked.Export file) did = ((Some task.Export, refl, performs task.Export did), tt)

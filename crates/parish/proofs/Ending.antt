@@ -85,10 +85,10 @@ module _ {D S R W F : Type 0} {g : disk.Ghosts D} (reader : read.Ghosts R) (read
       file_at_most_1 (apply_task stops) did.0 did.1
   does_at_most_1 (asked.Entries file source token) did =
       under_at_most_1 token.now (task.Entries token.now source) did
-  does_at_most_1 (asked.EnterTable file source order token) did =
-      under_at_most_1 token.now (entering_task token.now source order) did
-  does_at_most_1 (asked.CheckTable file source order) did =
-      file_at_most_1 (table_task source order) did.0 did.1
+  does_at_most_1 (asked.EnterTable file source form token) did =
+      under_at_most_1 token.now (entering_task token.now source form) did
+  does_at_most_1 (asked.CheckTable file source form) did =
+      file_at_most_1 (table_task source form) did.0 did.1
   does_at_most_1 (asked.Import file token progress) did =
       under_at_most_1 token.now (task.Import token.now progress) did
   does_at_most_1 (asked.Export file) did =
@@ -153,9 +153,9 @@ module _ {D S R W F : Type 0} {g : disk.Ghosts D} (reader : read.Ghosts R) (read
   does_quietly (asked.Apply file stops) did is zero = absurd (true≢false is)
   does_quietly (asked.Entries file source token) did is zero =
       under_quietly token.now (task.Entries token.now source) did refl zero
-  does_quietly (asked.EnterTable file source order token) did is zero = absurd (true≢false is)
-  does_quietly (asked.CheckTable file source order) did is zero =
-      file_quietly (table_task source order) did.0 did.1 refl zero
+  does_quietly (asked.EnterTable file source form token) did is zero = absurd (true≢false is)
+  does_quietly (asked.CheckTable file source form) did is zero =
+      file_quietly (table_task source form) did.0 did.1 refl zero
   does_quietly (asked.Import file token progress) did is zero =
       under_quietly token.now (task.Import token.now progress) did is zero
   does_quietly (asked.Export file) did is zero =

@@ -76,7 +76,7 @@ use Rattle.tasks.specs.declared.task.Task.TheVariants as task
 abbrev pub tells : Asked → Bool
 tells (Apply file stops) = true
 tells (Convert from) = true
-tells (EnterTable file source order token) = true
+tells (EnterTable file source form token) = true
 tells (ExportPlain file) = true
 tells (ExportPublicPlain file today) = true
 tells (Import file token progress) = progress
@@ -148,8 +148,8 @@ module _ {D S R W F : Type 0} {g : disk.Ghosts D} (reader : read.Ghosts R) (read
   Does (Init file society) = Finished (Makes image left society.now) × IsUnread × IsUnwritten × (room ≡ None)
   Does (Apply file stops) = DoesTask (apply_task stops)
   Does (Entries file source token) = DoesUnder token.now (task.Entries token.now source)
-  Does (EnterTable file source order token) = DoesUnder token.now (entering_task token.now source order)
-  Does (CheckTable file source order) = DoesTask (table_task source order)
+  Does (EnterTable file source form token) = DoesUnder token.now (entering_task token.now source form)
+  Does (CheckTable file source form) = DoesTask (table_task source form)
   Does (Import file token progress) = DoesUnder token.now (task.Import token.now progress)
   Does (Export file) = DoesTask task.Export
   Does (ExportPublic file today) = DoesTask (task.ExportPublic today)

@@ -38,8 +38,8 @@ use Rattle.tasks.specs.declared.task.Task.TheVariants as task
 abbrev pub HasTask : Asked → Option Task → Type 0
 HasTask (Apply file stops) t = t ≡ Some (apply_task stops)
 HasTask (Entries file source token) t = t ≡ Some (task.Entries token.now source)
-HasTask (EnterTable file source order token) t = t ≡ Some (entering_task token.now source order)
-HasTask (CheckTable file source order) t = t ≡ Some (table_task source order)
+HasTask (EnterTable file source form token) t = t ≡ Some (entering_task token.now source form)
+HasTask (CheckTable file source form) t = t ≡ Some (table_task source form)
 HasTask (Import file token progress) t = t ≡ Some (task.Import token.now progress)
 HasTask (Export file) t = t ≡ Some task.Export
 HasTask (ExportPublic file today) t = t ≡ Some (task.ExportPublic today)

@@ -16,7 +16,7 @@ use crate::tables::entering_task;
 use crate::visits::{Visits, room_of};
 use archive_files::{Left, LeftFile, Openable, init};
 use archive_runs::perform_on_file;
-use command_line::{OrderName, RoomPages};
+use command_line::{RoomPages, TableWords};
 use devices::Device;
 use receipts::Token;
 use record_text::RefusalKind;
@@ -101,7 +101,7 @@ pub(crate) fn enter_table<S: Openable, R: Read + Device, W: Write + Device, F: F
     file: &str,
     token: &str,
     source: u32,
-    dates: Option<OrderName>,
+    words: TableWords,
     start: S,
     input: &mut R,
     output: &mut W,
@@ -110,11 +110,11 @@ pub(crate) fn enter_table<S: Openable, R: Read + Device, W: Write + Device, F: F
     ensures { DoesUnder R.Read R.Device W.Write W.Device F.Write F.Device (image_at S.Start) result.0
         (record { input = input.old; output = output.old; faults = faults.old })
         (record { input = input.new; output = output.new; faults = faults.new }) result.1 result.2 token.now
-        (entering_task token.now source dates) }
+        (entering_task token.now source words) }
 {
     match token_given(rt.alloc(), token) {
         Ok(token) => {
-            let task = entering_task(token, source, dates);
+            let task = entering_task(token, source, words);
             do_task(rt, file, task, start, input, output, faults)
         }
         Err(kind) => (

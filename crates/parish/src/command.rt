@@ -164,15 +164,11 @@ fn work<S: Openable, R: Read + Device, W: Write + Device, F: FaultStream>(
         Asked::EnterTable {
             file,
             source,
-            order,
+            form,
             token,
-        } => enter_table(rt, file, token, source, order, start, input, output, faults),
-        Asked::CheckTable {
-            file,
-            source,
-            order,
-        } => {
-            let task = table_task(source, order);
+        } => enter_table(rt, file, token, source, form, start, input, output, faults),
+        Asked::CheckTable { file, source, form } => {
+            let task = table_task(source, form);
             do_task(rt, file, task, start, input, output, faults)
         }
         Asked::Import {

@@ -77,7 +77,7 @@ fn line_at(line: usize) -> Option<u32>
 }
 
 /// The character set that is asked for.
-fn asked(from: Option<SetName>) -> Option<CharacterSet>
+pub(crate) fn asked(from: Option<SetName>) -> Option<CharacterSet>
     ensures { result ≡ option_map converting.set_of from }
 {
     match from {

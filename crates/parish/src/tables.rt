@@ -3,29 +3,39 @@
 ghost use Rattle.std.specs.Prelude.{◌≡◌, option_map};
 ghost use Rattle.parish.specs.Tables as tables;
 
-use command_line::OrderName;
+use crate::converting::asked;
+use command_line::{OrderName, TableWords};
 use page_entries::DateOrder;
 use receipts::Token;
-use tasks::Task;
+use tasks::{TableForm, Task};
 
-/// The table of the input, whose rows would be entries of a source, with an order of dates where one is given.
-pub(crate) fn table_task(source: u32, dates: Option<OrderName>) -> Task
-    ensures { result ≡ tables.table_task source dates }
+/// The table of the input, whose rows would be entries of a source, read as the words say.
+pub(crate) fn table_task(source: u32, words: TableWords) -> Task
+    ensures { result ≡ tables.table_task source words }
 {
     Task::CheckTable {
         source,
-        order: order_given(dates),
+        form: form_of(words),
     }
 }
 
 /// The same, entered under a token.
-pub(crate) fn entering_task(token: Token, source: u32, dates: Option<OrderName>) -> Task
-    ensures { result ≡ tables.entering_task token source dates }
+pub(crate) fn entering_task(token: Token, source: u32, words: TableWords) -> Task
+    ensures { result ≡ tables.entering_task token source words }
 {
     Task::EnterTable {
         token,
         source,
-        order: order_given(dates),
+        form: form_of(words),
+    }
+}
+
+fn form_of(words: TableWords) -> TableForm
+    ensures { result ≡ tables.form_of words }
+{
+    TableForm {
+        set: asked(words.set),
+        order: order_given(words.order),
     }
 }
 

@@ -26,7 +26,6 @@ use Rattle.sqlite_trees.specs.declared.store.Store.{Ghosts}
 use Rattle.archive_lists.specs.declared.checking.PageFound.TheVariants.{Checked, Unread}
 use Rattle.archive_state.specs.Content.{Content}
 use Rattle.devices.specs.declared.device.Device as device
-use Rattle.page_entries.specs.declared.dates.DateOrder.{DateOrder}
 use Rattle.record_text.specs.declared.refusal.RefusalText.{RefusalText}
 use Rattle.tasks.specs.Ends.{ChecksTable, Does, Ends}
 use Rattle.tasks.proofs.Aloud.{far_quiet}
@@ -34,6 +33,7 @@ use Rattle.tasks.specs.Checking.{Checking, SaysFound, as_checked}
 use Rattle.tasks.specs.Moments.{Moment}
 use Rattle.tasks.specs.Status.{Finishes, Outcome}
 use Rattle.tasks.specs.Stopping.{Concludes, is_said, reporting_of}
+use Rattle.tasks.specs.declared.task.TableForm.{TableForm}
 use Rattle.tasks.specs.declared.task.Task.{Task}
 use Rattle.tasks.specs.declared.task.Task.TheVariants as task
 
@@ -42,7 +42,7 @@ abbrev pub says : Task → Bool
 says task.Apply = true
 says task.ApplyUntilRefused = true
 says (task.Import token progress) = progress
-says (task.EnterTable token source order) = true
+says (task.EnterTable token source form) = true
 says task.ExportPlain = true
 says (task.ExportPublicPlain today) = true
 says _ = false
@@ -105,18 +105,18 @@ module _ {S R W F : Type 0} (g : Ghosts S) (reader : read.Ghosts R) (reads : dev
   looked_quietly a b (Ok (Unread text)) o e said = subst (λ (q : Outcome). OnOk q (b.faults ≡ a.faults)) (sym e) tt
   looked_quietly a b (Err kind) o e said = on_ok o said
 
-  checked_quietly : (a b : Moment g R W F) (source : ℕ) (order : Option DateOrder) (o : Outcome)
-      → ChecksTable g reader reads writer writes faulter fails a b source order o → OnOk o (b.faults ≡ a.faults)
-  checked_quietly a b source order o (inl none) = on_ok o none.5
-  checked_quietly a b source order o (inr did) = looked_quietly a b did.2.found o did.2.is did.2.said
+  checked_quietly : (a b : Moment g R W F) (source : ℕ) (form : TableForm) (o : Outcome)
+      → ChecksTable g reader reads writer writes faulter fails a b source form o → OnOk o (b.faults ≡ a.faults)
+  checked_quietly a b source form o (inl none) = on_ok o none.5
+  checked_quietly a b source form o (inr did) = looked_quietly a b did.2.found o did.2.is did.2.said
 
   does_quietly : (t : Task) (a b : Moment g R W F) (o : Outcome) (shown : Option Content)
       → Does g reader reads writer writes faulter fails a b t o shown → says t ≡ false → OnOk o (b.faults ≡ a.faults)
   does_quietly task.Apply a b o shown did is = absurd (true≢false is)
   does_quietly task.ApplyUntilRefused a b o shown did is = absurd (true≢false is)
   does_quietly (task.Entries token source) a b o shown did is = on_ok o did.1
-  does_quietly (task.EnterTable token source order) a b o shown did is = absurd (true≢false is)
-  does_quietly (task.CheckTable source order) a b o shown did is = checked_quietly a b source order o did.0
+  does_quietly (task.EnterTable token source form) a b o shown did is = absurd (true≢false is)
+  does_quietly (task.CheckTable source form) a b o shown did is = checked_quietly a b source form o did.0
   does_quietly (task.Import token progress) a b o shown did is =
       on_ok o (far_quiet g reader reads writer writes faulter fails a b progress token o is did.1)
   does_quietly task.Export a b o shown did is = on_ok o did.2

@@ -19,6 +19,9 @@ use Rattle.std.proofs.Common.{
   take,
   take_all,
 }
+use Rattle.character_sets.specs.declared.set.CharacterSet.{CharacterSet}
+use Rattle.page_texts.specs.Texts.{page_text}
+use Rattle.tasks.specs.Checking.{AreRead, IsText}
 
 all_there : (most : ℕ) (known all : List ℕ) → all ≡ take (most + 1) known → length all ≤ most
     → (all ≡ known) × (length known ≤ most)
@@ -39,3 +42,9 @@ more most None all e many = tt
 more most (Some k) all e many =
     let measured : length all ≡ min (most + 1) (length k) = ap length e ∙ length-take (most + 1) k in
     omega (arith, measured, many)
+
+-- the text of bytes that were read
+pub is_text : (set : Option CharacterSet) (known : Option (List ℕ)) (bytes text : List ℕ) → AreRead known bytes
+    → text ≡ page_text set bytes → IsText set known text
+is_text set None bytes text read is = tt
+is_text set (Some all) bytes text read is = (is ∙ ap (page_text set) read.0, read.1)

@@ -18,6 +18,8 @@ use Rattle.std.specs.Prelude.{
 }
 use Rattle.archive_lists.specs.declared.checking.PageFound.{PageFound}
 use Rattle.archive_lists.specs.declared.checking.PageFound.TheVariants.{Checked, Unread}
+use Rattle.character_sets.specs.declared.set.CharacterSet.{CharacterSet}
+use Rattle.page_texts.specs.Texts.{page_text}
 use Rattle.record_text.specs.declared.refusal.RefusalKind.{RefusalKind}
 use Rattle.record_text.specs.declared.refusal.RefusalKind.TheVariants.{BadRow, FileTooLarge, OutOfMemory, ReadFailed}
 use Rattle.tasks.specs.Faults.{IsReported}
@@ -31,6 +33,10 @@ most_bytes = 67108864
 -- these are the bytes of the input
 abbrev pub AreRead : Option (List ℕ) → List ℕ → Type 0
 AreRead known bytes = IfSome known (λ all. (bytes ≡ all) × (length all ≤ most_bytes))
+
+-- this is their text in a character set
+abbrev pub IsText : Option CharacterSet → Option (List ℕ) → List ℕ → Type 0
+IsText set known text = IfSome known (λ all. (text ≡ page_text set all) × (length all ≤ most_bytes))
 
 -- why it was not read: memory was refused, the reader has failed in this call, or there are more bytes
 abbrev pub IsUnread : Option (List ℕ) → Type 0 → RefusalKind → Type 0

@@ -63,7 +63,7 @@ use Rattle.store.specs.Telling.{TellsImport}
 use Rattle.archive_input.specs.Entering.{Enters, IsNoBatch}
 use Rattle.archive_input.specs.RowByRow.{AppliedInTurn, EndedInTurn, Moment as RowMoment}
 use Rattle.archive_input.specs.Stopping.{AppliedUntilRefused, EndedUntilRefused}
-use Rattle.tasks.specs.Checking.{AreRead, Checking, IsUnread as IsUnreadTable, SaysFound, as_checked}
+use Rattle.tasks.specs.Checking.{Checking, IsText, IsUnread as IsUnreadTable, SaysFound, as_checked}
 use Rattle.tasks.specs.Counts.{SaysCount, SaysPart}
 use Rattle.tasks.specs.Faults.{IsReported}
 use Rattle.tasks.specs.Moments.{Moment}
@@ -72,6 +72,7 @@ use Rattle.tasks.specs.Status.{Outcome, Plain, as_text, is_80, placeless_text}
 use Rattle.tasks.specs.Stopping.{Concludes, Stopping, as_stopped}
 use Rattle.tasks.specs.Tables.{PageEntering, SaysPage}
 use Rattle.tasks.specs.Texts.{made_text}
+use Rattle.tasks.specs.declared.task.TableForm.{TableForm}
 use Rattle.tasks.specs.declared.task.Task.{Task}
 use Rattle.tasks.specs.declared.task.Task.TheVariants as task
 
@@ -174,13 +175,13 @@ module _ {S R W F : Type 0} (g : Ghosts S) (reader : read.Ghosts R) (reads : dev
   IsNoTable outcome = (kind : RefusalKind) × (outcome ≡ Err (placeless_text kind))
       × IsUnreadTable (reader.remaining a.input) HasReadFailed kind × (b.archive ≡ a.archive) × IsUnwritten × IsQuiet
 
-  -- these bytes were looked over: a line for all that is wrong or doubtful was printed, or a prefix of that; or the
+  -- this text was looked over: a line for all that is wrong or doubtful was printed, or a prefix of that; or the
   -- faults got why they are no table
-  pub record LooksOver (source : ℕ) (order : Option DateOrder) (bytes : List ℕ) (outcome : Outcome) : Type 0 where
+  pub record LooksOver (source : ℕ) (order : Option DateOrder) (text : List ℕ) (outcome : Outcome) : Type 0 where
     pub found : Checking
     pub is : outcome ≡ as_checked found
     pub ended : OnRead (state g a.archive.conn) (state g b.archive.conn) (λ c. EndsChecking found
-        (writer.contents a.output) (writer.contents b.output) (page_check c source order bytes))
+        (writer.contents a.output) (writer.contents b.output) (page_check c source order text))
     pub said : SaysFound faulter.contents fails.failed found a.faults b.faults
     pub unread : IfErr found (λ kind. is_failure kind ≡ true → PrintsNothing)
     pub blamed : IfErr found (λ kind. kind ≡ WriteFailed → HasWriteFailed)
@@ -188,26 +189,27 @@ module _ {S R W F : Type 0} (g : Ghosts S) (reader : read.Ghosts R) (reads : dev
     pub lost : b.archive.is_lost ≡ has_broken found
 
   -- the table of the input was looked over, whether the archive is sound or not; or it was not read
-  abbrev pub ChecksTable : ℕ → Option DateOrder → Outcome → Type 0
-  ChecksTable source order outcome = IsNoTable outcome
-      ⊎ ((bytes : List ℕ) × AreRead (reader.remaining a.input) bytes × LooksOver source order bytes outcome)
+  abbrev pub ChecksTable : ℕ → TableForm → Outcome → Type 0
+  ChecksTable source form outcome = IsNoTable outcome
+      ⊎ ((text : List ℕ) × IsText form.set (reader.remaining a.input) text × LooksOver source form.order text outcome)
 
   -- ---- a table that is entered, under a token
   -- this was made of it, or why it was refused
   abbrev pub PageAt : List ℕ → ℕ → Option DateOrder → List ℕ → PageEntering → Type 0
-  PageAt token source order bytes r = EntersPage g token source order bytes a.archive r b.archive
+  PageAt token source order text r = EntersPage g token source order text a.archive r b.archive
 
-  -- these bytes were entered, all rows or none, and it was said what they have come to
-  abbrev pub EntersBytes : List ℕ → ℕ → Option DateOrder → List ℕ → Outcome → Type 0
-  EntersBytes token source order bytes outcome =
-      (r : PageEntering) × PageAt token source order bytes r
+  -- this text was entered, all rows or none, and it was said what it has come to
+  abbrev pub EntersText : List ℕ → ℕ → Option DateOrder → List ℕ → Outcome → Type 0
+  EntersText token source order text outcome =
+      (r : PageEntering) × PageAt token source order text r
       × SaysPage writer.contents writes.failed faulter.contents fails.failed outcome a.output b.output a.faults
       b.faults r
 
   -- the table of the input was entered, or refused; or it was not read
-  abbrev pub EntersTable : List ℕ → ℕ → Option DateOrder → Outcome → Type 0
-  EntersTable token source order outcome = IsNoTable outcome
-      ⊎ ((bytes : List ℕ) × AreRead (reader.remaining a.input) bytes × EntersBytes token source order bytes outcome)
+  abbrev pub EntersTable : List ℕ → ℕ → TableForm → Outcome → Type 0
+  EntersTable token source form outcome = IsNoTable outcome
+      ⊎ ((text : List ℕ) × IsText form.set (reader.remaining a.input) text
+      × EntersText token source form.order text outcome)
 
   -- ---- a file, under a token
   abbrev pub FileWhole : List ℕ → Answer → List ReportLine → Type 0
@@ -341,8 +343,8 @@ module _ {S R W F : Type 0} (g : Ghosts S) (reader : read.Ghosts R) (reads : dev
   Does task.ApplyUntilRefused outcome shown =
       ((r : Stopping) × (outcome ≡ as_stopped r) × AppliesUntilRefused r) × (shown ≡ None)
   Does (task.Entries token source) outcome shown = EntersBatch token source outcome × IsQuiet × (shown ≡ None)
-  Does (task.CheckTable source order) outcome shown = ChecksTable source order outcome × (shown ≡ None)
-  Does (task.EnterTable token source order) outcome shown = EntersTable token source order outcome × (shown ≡ None)
+  Does (task.CheckTable source form) outcome shown = ChecksTable source form outcome × (shown ≡ None)
+  Does (task.EnterTable token source form) outcome shown = EntersTable token source form outcome × (shown ≡ None)
   Does (task.Import token progress) outcome shown = ImportsFile token outcome × SaysHowFar progress token outcome
       × (shown ≡ None)
   Does task.Export outcome shown = Ended outcome Exports × IsUnread × IsQuiet × (shown ≡ None)

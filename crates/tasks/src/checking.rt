@@ -2,14 +2,18 @@
 
 ghost use Rattle.std.specs.Prelude.{◌≡◌, false, IfErr, IfOk};
 ghost use Rattle.devices.specs.Devices.{Rose};
-ghost use Rattle.tasks.specs.Checking.{AreRead, IsUnread, SaysFound, as_checked};
+ghost use Rattle.page_texts.specs.Texts.{page_text as text_of_page};
+ghost use Rattle.record_text.specs.declared.refusal.RefusalKind.TheVariants.{OutOfMemory};
+ghost use Rattle.tasks.specs.Checking.{AreRead, IsText, IsUnread, SaysFound, as_checked};
 ghost use Rattle.tasks.specs.Ends.{ChecksTable};
 
 use crate::faults::FaultStream;
 use crate::status::placeless;
+use crate::task::TableForm;
 use archive_lists::{PageFound, write_check};
+use character_sets::CharacterSet;
 use devices::{Device, TransferError, read_up_to};
-use page_entries::DateOrder;
+use page_texts::page_text;
 use record_text::{RefusalKind, RefusalText};
 use sqlite::Alter;
 use std::alloc::Global;
@@ -28,7 +32,7 @@ pub(crate) fn check_table<S: Alter, R: Read + Device, W: Write + Device, F: Faul
     alloc: Global,
     archive: &mut Archive<S>,
     source: u32,
-    order: Option<DateOrder>,
+    form: TableForm,
     input: &mut R,
     output: &mut W,
     faults: &mut F,
@@ -37,22 +41,48 @@ pub(crate) fn check_table<S: Alter, R: Read + Device, W: Write + Device, F: Faul
     ensures { ChecksTable S.Store R.Read R.Device W.Write W.Device F.Write F.Device
         (record { archive = archive.old; input = input.old; output = output.old; faults = faults.old })
         (record { archive = archive.new; input = input.new; output = output.new; faults = faults.new })
-        source order result }
+        source form result }
 {
-    match read_table(alloc, input) {
-        Ok(bytes) => {
-            let found = write_check(alloc, archive, source, order, &bytes, output);
+    match read_table(alloc, form.set, input) {
+        Ok(text) => {
+            let found = write_check(alloc, archive, source, form.order, &text, output);
             conclude_check(found, faults)
         }
         Err(kind) => Err(placeless(kind)),
     }
 }
 
-/// The bytes of the input. 94: the input failed. 27: there are more than 67,108,864. 1: memory was refused.
+/// The text of the input, which is in that character set where one is given. 94: the input failed. 27: it has more than
+/// 67,108,864 bytes. 1: memory was refused.
+#[tactic(auto, using(crate::proofs::Whole::is_text))]
 pub(crate) fn read_table<R: Read + Device>(
     alloc: Global,
+    set: Option<CharacterSet>,
     input: &mut R,
 ) -> Result<Vec<u8>, RefusalKind>
+    ensures text { IfOk result (λ text. IsText set (R.remaining input.old) text.items) }
+    ensures error { IfErr result (IsUnread (R.remaining input.old) (Rose (R.failed input.old) (R.failed input.new))) }
+{
+    match read_bytes(alloc, input) {
+        Ok(bytes) => converted(alloc, set, bytes),
+        Err(kind) => Err(kind),
+    }
+}
+
+/// The text of bytes. 1: memory was refused.
+fn converted(
+    alloc: Global,
+    set: Option<CharacterSet>,
+    bytes: Vec<u8>,
+) -> Result<Vec<u8>, RefusalKind>
+    ensures text { IfOk result (λ text. text.items ≡ text_of_page set bytes.items) }
+    ensures error { IfErr result (λ kind. kind ≡ OutOfMemory) }
+{
+    Ok(page_text(alloc, set, bytes)?)
+}
+
+/// The bytes of the input. Refusals as of `read_table`.
+fn read_bytes<R: Read + Device>(alloc: Global, input: &mut R) -> Result<Vec<u8>, RefusalKind>
     ensures bytes { IfOk result (λ all. AreRead (R.remaining input.old) all.items) }
     ensures error { IfErr result (IsUnread (R.remaining input.old) (Rose (R.failed input.old) (R.failed input.new))) }
 {

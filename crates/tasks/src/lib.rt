@@ -25,4 +25,4 @@ mod task;
 pub use faults::FaultStream;
 pub use perform::perform_task;
 pub use status::{placeless, plain, status_of};
-pub use task::Task;
+pub use task::{TableForm, Task};

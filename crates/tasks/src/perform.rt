@@ -110,13 +110,13 @@ fn do_task<S: Alter, C: Clock, R: Read + Device, W: Write + Device, F: FaultStre
         Task::EnterTable {
             token,
             source,
-            order,
+            form,
         } => (
-            enter_table(alloc, archive, token, source, order, input, output, faults),
+            enter_table(alloc, archive, token, source, form, input, output, faults),
             None,
         ),
-        Task::CheckTable { source, order } => (
-            check_table(alloc, archive, source, order, input, output, faults),
+        Task::CheckTable { source, form } => (
+            check_table(alloc, archive, source, form, input, output, faults),
             None,
         ),
         Task::Import { token, progress } => (

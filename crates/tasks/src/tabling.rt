@@ -15,13 +15,13 @@ use crate::checking::read_table;
 use crate::entering::print_made;
 use crate::faults::FaultStream;
 use crate::status::placeless;
+use crate::task::TableForm;
 use archive_pages::{PageEnd, enter_page};
 use arrayvec::ArrayString;
 use devices::Device;
 use itoa::Buffer;
 use page_batches::BatchRefusal;
 use page_checks::page_lines;
-use page_entries::DateOrder;
 use receipts::{Answer, Token};
 use record_text::{RefusalKind, RefusalText, Unit};
 use sqlite::Alter;
@@ -45,7 +45,7 @@ pub(crate) fn enter_table<S: Alter, R: Read + Device, W: Write + Device, F: Faul
     archive: &mut Archive<S>,
     token: Token,
     source: u32,
-    order: Option<DateOrder>,
+    form: TableForm,
     input: &mut R,
     output: &mut W,
     faults: &mut F,
@@ -54,11 +54,11 @@ pub(crate) fn enter_table<S: Alter, R: Read + Device, W: Write + Device, F: Faul
     ensures { EntersTable S.Store R.Read R.Device W.Write W.Device F.Write F.Device
         (record { archive = archive.old; input = input.old; output = output.old; faults = faults.old })
         (record { archive = archive.new; input = input.new; output = output.new; faults = faults.new })
-        token source order result }
+        token source form result }
 {
-    match read_table(alloc, input) {
-        Ok(bytes) => {
-            let end = enter_page(alloc, archive, token, source, order, &bytes);
+    match read_table(alloc, form.set, input) {
+        Ok(text) => {
+            let end = enter_page(alloc, archive, token, source, form.order, &text);
             say_page(alloc, end, output, faults)
         }
         Err(kind) => Err(placeless(kind)),

@@ -1,9 +1,19 @@
 //! What may be asked of an archive that is open.
 
 use archive_output::Sheet;
+use character_sets::CharacterSet;
 use page_entries::DateOrder;
 use receipts::Token;
 use record_lists::Listed;
+
+/// How a table is read.
+#[derive(Clone, Copy, Debug)]
+pub struct TableForm {
+    /// The character set of its file, if one is given; the mark of UTF-16 goes before it.
+    pub set: Option<CharacterSet>,
+    /// The order of a date of three numbers, if one is given.
+    pub order: Option<DateOrder>,
+}
 
 /// What is asked of an archive that is open. Days are counted from 1970-01-01, day 0.
 #[derive(Debug, Drop)]
@@ -17,18 +27,17 @@ pub enum Task {
         token: Token,
         source: u32,
     },
-    /// The table of the input as register entries of a source, under a token, all its rows or none. Dates of three
-    /// numbers are in that order, where one is given.
+    /// The table of the input as register entries of a source, under a token, all its rows or none.
     EnterTable {
         token: Token,
         source: u32,
-        order: Option<DateOrder>,
+        form: TableForm,
     },
     /// What is wrong or doubtful in the table of the input, whose rows would be register entries of a source, on the
-    /// output. Dates of three numbers are in that order, where one is given.
+    /// output.
     CheckTable {
         source: u32,
-        order: Option<DateOrder>,
+        form: TableForm,
     },
     /// The GEDCOM file of the input, whole or not at all, under a token. With `progress` the faults get how far it is.
     Import {

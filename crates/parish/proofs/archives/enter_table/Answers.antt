@@ -8,7 +8,7 @@ pub returns-in-Ok : goal.returns-in-Ok
 returns-in-Ok g c = inr (
   c.in-Ok.ensures.given.1,
   under_token g.R.Read g.R.Device g.W.Write g.W.Device g.F.Write g.F.Device (image_at g.S.Start) _ _ _ _ _
-      (λ (t : List ℕ). entering_task t c.args.source c.args.dates) _ _ c.in-Ok.ensures.given.0
+      (λ (t : List ℕ). entering_task t c.args.source c.args.words) _ _ c.in-Ok.ensures.given.0
       (in_task g.R.Read g.R.Device g.W.Write g.W.Device g.F.Write g.F.Device (image_at g.S.Start) _ _ _ _ _
       c.entering_task-task.result _ c.entering_task-task.ensures c.do_task.ensures),
 )

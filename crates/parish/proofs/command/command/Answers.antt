@@ -45,9 +45,9 @@ quiet asked.Check words of has no_apply no_convert no_import no_plain no_table =
 quiet asked.CheckAll words of has no_apply no_convert no_import no_plain no_table = refl
 quiet (asked.Init file society) words of has no_apply no_convert no_import no_plain no_table = refl
 quiet (asked.Entries file source token) words of has no_apply no_convert no_import no_plain no_table = refl
-quiet (asked.EnterTable file source order token) words of has no_apply no_convert no_import no_plain no_table =
-    absurd (no_table (of, has.2, has.3))
-quiet (asked.CheckTable file source order) words of has no_apply no_convert no_import no_plain no_table = refl
+quiet (asked.EnterTable file source form token) words of has no_apply no_convert no_import no_plain no_table =
+    absurd (no_table (of, has.2, has.4))
+quiet (asked.CheckTable file source form) words of has no_apply no_convert no_import no_plain no_table = refl
 quiet (asked.Export file) words of has no_apply no_convert no_import no_plain no_table = refl
 quiet (asked.ExportPublic file today) words of has no_apply no_convert no_import no_plain no_table = refl
 quiet (asked.ExportPlain file) words of has no_apply no_convert no_import no_plain no_table =

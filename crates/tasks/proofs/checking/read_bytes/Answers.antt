@@ -1,7 +1,7 @@
 use Rattle.std.proofs.Common.{◌<◌, ◌≤◌, arith, length, rules}
 use Rattle.tasks.proofs.Whole.{more, whole}
-use Rattle.tasks.proofs.checking.read_table.Goals as goal
-use Rattle.tasks.proofs.checking.read_table.Goals.{
+use Rattle.tasks.proofs.checking.read_bytes.Goals as goal
+use Rattle.tasks.proofs.checking.read_bytes.Goals.{
   in-Ok+else-len-gt-MOST,
   in-Err-OutOfMemory,
   in-Err-Failed,
