@@ -76,6 +76,12 @@ pub enum RefusalKind {
     NotOfKind,
     /// A number above 4,294,967,295 would be needed.
     Full,
+    /// The record has no such field, or its list has fewer items.
+    NoSuchField,
+    /// The person is no partner, or no child, of the family.
+    NotMember,
+    /// A line that a record carries would be read as one of its fields.
+    StillCarried,
     /// The export would pass 67,108,864 bytes; what was written is a beginning of it.
     ExportTooLarge,
     /// A call of the database answered an error.
@@ -147,6 +153,9 @@ impl RefusalKind {
             RefusalKind::NoSuchMention => 61,
             RefusalKind::NotOfKind => 62,
             RefusalKind::Full => 63,
+            RefusalKind::NoSuchField => 64,
+            RefusalKind::NotMember => 65,
+            RefusalKind::StillCarried => 66,
             RefusalKind::ExportTooLarge => 70,
             RefusalKind::Storage => 80,
             RefusalKind::Reopen => 81,
@@ -203,6 +212,9 @@ impl RefusalKind {
             RefusalKind::NoSuchMention => "NoSuchMention",
             RefusalKind::NotOfKind => "NotOfKind",
             RefusalKind::Full => "Full",
+            RefusalKind::NoSuchField => "NoSuchField",
+            RefusalKind::NotMember => "NotMember",
+            RefusalKind::StillCarried => "StillCarried",
             RefusalKind::ExportTooLarge => "ExportTooLarge",
             RefusalKind::Storage => "Storage",
             RefusalKind::Reopen => "Reopen",
