@@ -37,11 +37,11 @@ use Rattle.archive_core.specs.Machine.{Done, Runs, import_of}
 use Rattle.archive_core.specs.declared.request.Request.{Request}
 use Rattle.archive_output.specs.Exporting.{export_text}
 use Rattle.archive_output.specs.Reading.{OnOpen}
-use Rattle.archive_lists.specs.Texts.{shown_text}
+use Rattle.archive_tables.specs.Texts.{shown_text}
 use Rattle.record_lists.specs.Texts.{list_text}
 use Rattle.archive_state.specs.Content.{Content}
-use Rattle.archive_pages.specs.Entering.{EntersEntries, EntersPage, IsEntered, answered, page_request}
-use Rattle.archive_pages.specs.declared.entering.PageEnd.TheVariants.{Entered, Unread}
+use Rattle.archive_tables.specs.Entering.{EntersEntries, EntersPage, IsEntered, answered, page_request}
+use Rattle.archive_tables.specs.declared.entering.PageEnd.TheVariants.{Entered, Unread}
 use Rattle.page_batches.specs.Batches.{rows_on}
 use Rattle.page_batches.specs.Words.{numbers_of}
 use Rattle.page_batches.specs.declared.rows.BatchRefusal.{BatchRefusal}

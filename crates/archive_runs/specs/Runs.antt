@@ -21,7 +21,7 @@ use Rattle.archive_input.specs.Answers.{Served}
 use Rattle.archive_input.specs.Applying.{AreServed, AreServedOver, answers, calls_of}
 use Rattle.archive_input.specs.Entering.{batch_request}
 use Rattle.archive_input.specs.Stopping.{AreAccepted, IsUpToRefusal}
-use Rattle.archive_pages.specs.Entering.{page_request}
+use Rattle.archive_tables.specs.Entering.{page_request}
 use Rattle.page_batches.specs.Batches.{rows_on}
 use Rattle.page_entries.specs.Entries.{page_of}
 use Rattle.page_entries.specs.declared.entries.PageEntry.{PageEntry}

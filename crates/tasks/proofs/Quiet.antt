@@ -23,7 +23,7 @@ use Rattle.std.specs.Prelude.{MatchBool, Option, Result, OnOk}
 use Rattle.std.specs.declared.io.Read as read
 use Rattle.std.specs.declared.io.Write as write
 use Rattle.sqlite_trees.specs.declared.store.Store.{Ghosts}
-use Rattle.archive_lists.specs.declared.checking.PageFound.TheVariants.{Checked, Unread}
+use Rattle.archive_tables.specs.declared.checking.PageFound.TheVariants.{Checked, Unread}
 use Rattle.archive_state.specs.Content.{Content}
 use Rattle.devices.specs.declared.device.Device as device
 use Rattle.record_text.specs.declared.refusal.RefusalText.{RefusalText}

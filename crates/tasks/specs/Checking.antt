@@ -16,8 +16,8 @@ use Rattle.std.specs.Prelude.{
   length,
   string_bytes,
 }
-use Rattle.archive_lists.specs.declared.checking.PageFound.{PageFound}
-use Rattle.archive_lists.specs.declared.checking.PageFound.TheVariants.{Checked, Unread}
+use Rattle.archive_tables.specs.declared.checking.PageFound.{PageFound}
+use Rattle.archive_tables.specs.declared.checking.PageFound.TheVariants.{Checked, Unread}
 use Rattle.character_sets.specs.declared.set.CharacterSet.{CharacterSet}
 use Rattle.page_texts.specs.Texts.{page_text}
 use Rattle.record_text.specs.declared.refusal.RefusalKind.{RefusalKind}

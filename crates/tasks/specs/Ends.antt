@@ -32,11 +32,11 @@ use Rattle.sqlite_trees.specs.declared.store.Store.{Ghosts}
 use Rattle.table_looks.specs.Judging.{Audit, Judges, Tells, without_fault}
 use Rattle.archive_output.specs.Exporting.{IsPart, export_text}
 use Rattle.archive_output.specs.Reading.{OnOpen, OnlyReads, OnlyReadsAny}
-use Rattle.archive_lists.specs.Checks.{EndsChecking}
-use Rattle.archive_lists.specs.Ends.{EndsWriting, OnRead}
-use Rattle.archive_lists.specs.Texts.{shown_text}
+use Rattle.archive_tables.specs.Checks.{EndsChecking}
+use Rattle.archive_tables.specs.Ends.{EndsWriting, OnRead}
+use Rattle.archive_tables.specs.Texts.{shown_text}
 use Rattle.record_lists.specs.Texts.{list_text}
-use Rattle.archive_pages.specs.Entering.{EntersPage}
+use Rattle.archive_tables.specs.Entering.{EntersPage}
 use Rattle.archive_state.specs.Content.{Content}
 use Rattle.archive_state.specs.Looks.{is_failure}
 use Rattle.request_csv.specs.Input.{row_bytes}

@@ -19,8 +19,8 @@ use Rattle.std.specs.Prelude.{
 }
 use Rattle.std.specs.Fmt.{decimal}
 use Rattle.std.specs.Io.KnownBytes.{Appends}
-use Rattle.archive_pages.specs.declared.entering.PageEnd.{PageEnd}
-use Rattle.archive_pages.specs.declared.entering.PageEnd.TheVariants.{Entered, Unread}
+use Rattle.archive_tables.specs.declared.entering.PageEnd.{PageEnd}
+use Rattle.archive_tables.specs.declared.entering.PageEnd.TheVariants.{Entered, Unread}
 use Rattle.devices.specs.Devices.{Rose}
 use Rattle.page_batches.specs.declared.rows.BatchRefusal.{BatchRefusal}
 use Rattle.page_checks.specs.Refusing.{page_lines}

@@ -10,7 +10,7 @@ ghost use Rattle.tasks.specs.Ends.{ChecksTable};
 use crate::faults::FaultStream;
 use crate::status::placeless;
 use crate::task::TableForm;
-use archive_lists::{PageFound, write_check};
+use archive_tables::{PageFound, write_check};
 use character_sets::CharacterSet;
 use devices::{Device, TransferError, read_up_to};
 use page_texts::page_text;

@@ -1,6 +1,6 @@
 //! The tasks of the program on an archive that is open, over any store and any streams.
 //!
-//! It uses `archive_input` for what is read, `archive_output` and `archive_lists` for what is written, and `store`,
+//! It uses `archive_input` for what is read, `archive_output` and `archive_tables` for what is written, and `store`,
 //! whose archive all of them work on. It opens no file.
 //!
 //! Callers may rely on: `perform_task` ends as `Ends` says of the task, which has an arm for each: what was read, what

@@ -16,7 +16,7 @@ use crate::entering::print_made;
 use crate::faults::FaultStream;
 use crate::status::placeless;
 use crate::task::TableForm;
-use archive_pages::{PageEnd, enter_page};
+use archive_tables::{PageEnd, enter_page};
 use arrayvec::ArrayString;
 use devices::Device;
 use itoa::Buffer;
@@ -36,10 +36,10 @@ const LINE: usize = 64;
 /// Reads the table of the input, and enters its rows as a batch of a source, under a token; prints how many entries
 /// were made, with the number of the first, and the faults get how many dates have no days but words.
 ///
-/// Refusals as of `archive_pages::enter_page`, with the row, after a line of the cell where one is to blame; nothing is
-/// printed then. 90: the page has a fault, whose lines the faults have got. 94: the input failed. 27: it has more than
-/// 67,108,864 bytes. 95: the output failed. 1: memory was refused. At 95, and at 1 if it is for the line, the batch was
-/// entered, and of the line a prefix may be printed.
+/// Refusals as of `archive_tables::enter_page`, with the row, after a line of the cell where one is to blame; nothing
+/// is printed then. 90: the page has a fault, whose lines the faults have got. 94: the input failed. 27: it has more
+/// than 67,108,864 bytes. 95: the output failed. 1: memory was refused. At 95, and at 1 if it is for the line, the
+/// batch was entered, and of the line a prefix may be printed.
 pub(crate) fn enter_table<S: Alter, R: Read + Device, W: Write + Device, F: FaultStream>(
     alloc: Global,
     archive: &mut Archive<S>,

@@ -1,7 +1,7 @@
 use Rattle.std.proofs.Common.{ℕ, List, inr, subst}
 use Rattle.sqlite.specs.Held.{state}
-use Rattle.archive_lists.specs.Checks.{EndsChecking}
-use Rattle.archive_lists.specs.Ends.{OnRead}
+use Rattle.archive_tables.specs.Checks.{EndsChecking}
+use Rattle.archive_tables.specs.Ends.{OnRead}
 use Rattle.page_checks.specs.Page.{page_check}
 use Rattle.tasks.proofs.checking.check_table.Goals as goal
 

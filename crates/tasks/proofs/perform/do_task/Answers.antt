@@ -1,8 +1,8 @@
 use Rattle.std.proofs.Common.{ℕ, List, SFits, refl, rules, subst, w32}
 use Rattle.std.proofs.lemmas.Int.{to_z-of_z}
 use Rattle.sqlite.specs.Held.{state}
-use Rattle.archive_lists.specs.Ends.{EndsWriting, OnRead}
-use Rattle.archive_lists.specs.Texts.{shown_text}
+use Rattle.archive_tables.specs.Ends.{EndsWriting, OnRead}
+use Rattle.archive_tables.specs.Texts.{shown_text}
 use Rattle.tasks.proofs.Aloud.{says_far}
 use Rattle.tasks.proofs.Blamed.{blamed_by}
 use Rattle.tasks.proofs.Days.{lists_on, prints_on, publishes_on, publishes_plain_on, shelves_on}

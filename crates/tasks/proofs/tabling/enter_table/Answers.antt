@@ -1,5 +1,5 @@
 use Rattle.std.proofs.Common.{ℕ, List, inr, subst}
-use Rattle.archive_pages.specs.Entering.{EntersPage}
+use Rattle.archive_tables.specs.Entering.{EntersPage}
 use Rattle.tasks.proofs.tabling.enter_table.Goals as goal
 
 pub returns-in-Ok : goal.returns-in-Ok

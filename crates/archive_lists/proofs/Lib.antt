@@ -1,3 +1,0 @@
-mod Checked
-pub mod Looked
-mod Shown

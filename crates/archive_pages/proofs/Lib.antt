@@ -1,2 +1,0 @@
-pub mod Entered
-pub mod Looked

@@ -1,0 +1,5 @@
+mod Checked
+pub mod Looked
+mod Shown
+pub mod Entered
+pub mod PageLooked

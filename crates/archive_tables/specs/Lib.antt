@@ -1,0 +1,5 @@
+pub mod Checks
+pub mod Ends
+pub mod Texts
+pub mod Entering
+pub mod Looking

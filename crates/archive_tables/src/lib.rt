@@ -1,0 +1,26 @@
+//! What goes into an archive, and comes out of it, as tables: pages of a register, looked over and entered; lists and
+//! records, written as lines or as CSV.
+//!
+//! - `checking`, `whole`, `writing`: which records an archive that is open has, a line each, its records whole, and
+//!   what is wrong with a page that would be entered on it, written as texts: for whoever keeps the archive, so nothing
+//!   is masked.
+//! - `entering`, `looking`, `request`: pages of register entries, entered on an archive that is open.
+//!
+//! Callers may rely on:
+//! - to write a list, records or a check changes nothing in the archive; nothing is written unless all that is asked
+//!   for was read.
+//! - a page is read, its places are looked for, and one request makes all its entries or none. What it makes is a
+//!   function of the cells, the order of dates, the source and the places of the archive; if the page, a place or a row
+//!   is refused the archive stays as it was.
+#![tactic(auto)]
+
+mod checking;
+mod entering;
+mod looking;
+mod request;
+mod whole;
+mod writing;
+
+pub use checking::{PageFound, write_check};
+pub use entering::{PageEnd, enter_page};
+pub use writing::{write_list, write_shown};
