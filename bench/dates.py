@@ -1,4 +1,4 @@
-"""Times date_lines beside a second reader of dates: python3 bench/dates.py 'COMMAND' [COUNT [SEED]].
+"""Times the dates of library_rows beside a second reader of dates: python3 bench/dates.py 'COMMAND' [COUNT [SEED]].
 
 Each reads COUNT texts (a million) of tests/dates/generate.py, and writes the canonical text and the
 days of each. Time of the whole run divided by the number of texts, three runs each in turn, least one.
@@ -15,7 +15,7 @@ sys.path.insert(0, str(ROOT / "tests/dates"))
 
 import generate  # noqa: E402
 
-OURS = [str(ROOT / "crates/date_lines/out/date_lines")]
+OURS = [str(ROOT / "crates/library_rows/out/library_rows")]
 
 
 def seconds(command, data):
@@ -28,9 +28,11 @@ def main():
     theirs = shlex.split(sys.argv[1])
     count = int(sys.argv[2]) if len(sys.argv) > 2 else 1_000_000
     seed = int(sys.argv[3]) if len(sys.argv) > 3 else 1
-    data = "".join(text + "\n" for text in generate.texts(seed, count)).encode("utf-8")
-    times = [(seconds(OURS, data), seconds(theirs, data)) for _ in range(3)]
-    for name, best in (("date_lines", min(t[0] for t in times)), (sys.argv[1], min(t[1] for t in times))):
+    texts = list(generate.texts(seed, count))
+    rows = "".join(f"date\t{text}\n" for text in texts).encode("utf-8")
+    data = "".join(f"{text}\n" for text in texts).encode("utf-8")
+    times = [(seconds(OURS, rows), seconds(theirs, data)) for _ in range(3)]
+    for name, best in (("library_rows", min(t[0] for t in times)), (sys.argv[1], min(t[1] for t in times))):
         print(f"{best / count * 1e9:8.0f} ns a date  {name}")
 
 

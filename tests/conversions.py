@@ -1,4 +1,4 @@
-"""Files in other character sets, converted by a program of the tests (crates/conversion_rows). What is expected of the
+"""Files in other character sets, converted by a program of the tests (crates/library_rows). What is expected of the
 code pages, of UTF-16 and of UTF-8 is what Python's codecs say; of ANSEL, and of what standard error says, it is written
 by hand, from ANSI/NISO Z39.47 and from docs/FORMATS.md.
 """
@@ -124,7 +124,7 @@ HINTS = (
 
 def conversions(program, rows):
     """Of each word of a set and file: how it ended, what was written, and what was said of it."""
-    given = "".join(f"{word} {file.hex()}\n" for word, file in rows).encode()
+    given = "".join(f"convert\t{word} {file.hex()}\n" for word, file in rows).encode()
     lines = run(program, given=given).out.decode().splitlines()
     demand(len(lines) == len(rows), f"{len(rows)} rows, {len(lines)} lines")
     ends = [line.split(" ") for line in lines]
@@ -281,7 +281,7 @@ def hints(program):
 
 
 def cases(tools: Tools):
-    if not tools.conversions:
+    if not tools.rows:
         return
     for name, test in (
         ("a conversion: each byte of a code page is its character", code_pages),
@@ -298,4 +298,4 @@ def cases(tools: Tools):
         ("a conversion: control characters are shown as spaces", hidden_controls),
         ("a conversion: a set that is not known has a hint", hints),
     ):
-        yield Case(name, lambda test=test: test(tools.conversions))
+        yield Case(name, lambda test=test: test(tools.rows))

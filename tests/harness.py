@@ -95,10 +95,8 @@ class Tools:
     parish: tuple[str, ...]
     pieces: tuple[str, ...] | None
     """The program that feeds the reader in pieces, or None where there is none."""
-    visits: tuple[str, ...] | None = None
-    """The program that answers requests by a room of its own, or None where there is none."""
-    conversions: tuple[str, ...] | None = None
-    """The program that converts files, or None where there is none."""
+    rows: tuple[str, ...] | None = None
+    """The program that answers rows by single libraries, or None if there is none."""
 
 
 @dataclass(frozen=True)

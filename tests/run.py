@@ -116,8 +116,7 @@ PARTS = (
     layout,
 )
 PIECES = "tree_pieces"
-VISITS = "visit_rows"
-CONVERSIONS = "conversion_rows"
+ROWS = "library_rows"
 
 
 def executable(crate):
@@ -144,7 +143,7 @@ def tools_of(given):
     parish = command(given.parish) if given.parish else (executable("parish"),)
     if given.pieces:
         return Tools(parish, command(given.pieces))
-    return Tools(parish, built(PIECES, given), built(VISITS, given), built(CONVERSIONS, given))
+    return Tools(parish, built(PIECES, given), built(ROWS, given))
 
 
 def outcome_of(case: Case):

@@ -355,7 +355,7 @@ def all_tests_with(copy, crate, *folders):
 
 
 def all_tests_with_dates(copy):
-    all_tests_with(copy, "date_lines", "dates")
+    all_tests_with(copy, "library_rows", "dates")
 
 
 def all_tests_with_archive(copy):

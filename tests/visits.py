@@ -1,4 +1,4 @@
-"""Requests and their answers, byte for byte, by a room of the tests' own (crates/visit_rows). It shows the records of
+"""Requests and their answers, byte for byte, by a room of the tests' own (crates/library_rows). It shows the records of
 odd numbers, by a word and the number. What is expected follows docs/FORMATS.md, "The reading room".
 """
 
@@ -116,7 +116,7 @@ HEADS = (
 
 def visits(program, rows):
     """What becomes of rows of a piece, a read and a write that fail, and a request: a word and the bytes written."""
-    text = "".join(f"{piece} {read} {write} {given.hex()}\n" for piece, read, write, given in rows)
+    text = "".join(f"visit\t{piece} {read} {write} {given.hex()}\n" for piece, read, write, given in rows)
     got = run(program, (), text.encode())
     demand(got.status == 0 and not got.err, f"status {got.status}, {got.err!r}")
     ends = [line.split(" ") for line in got.out.decode().splitlines()]
@@ -169,7 +169,7 @@ def failing_writes(program):
 
 
 def cases(tools: Tools):
-    if not tools.visits:
+    if not tools.rows:
         return
     for name, test in (
         ("a request: its target decides its answer", targets),
@@ -179,4 +179,4 @@ def cases(tools: Tools):
         ("a request: where a read fails nothing is written", failing_reads),
         ("a request: where a write fails a beginning is written", failing_writes),
     ):
-        yield Case(name, lambda test=test: test(tools.visits))
+        yield Case(name, lambda test=test: test(tools.rows))

@@ -1,4 +1,4 @@
-"""Compares date_lines with a second reader of dates, on texts of the seeded generator.
+"""Compares the dates of library_rows with a second reader of dates, on texts of the seeded generator.
 
     python3 tests/dates/compare.py 'COMMAND' [COUNT [SEED]]
 
@@ -13,7 +13,7 @@ import sys
 
 import generate
 
-OURS = pathlib.Path(__file__).resolve().parents[2] / "crates/date_lines/out/date_lines"
+OURS = pathlib.Path(__file__).resolve().parents[2] / "crates/library_rows/out/library_rows"
 
 
 def answers(command, data):
@@ -26,9 +26,8 @@ def main():
     count = int(sys.argv[2]) if len(sys.argv) > 2 else 100_000
     seed = int(sys.argv[3]) if len(sys.argv) > 3 else 1
     made = generate.texts(seed, count)
-    data = "".join(text + "\n" for text in made).encode("utf-8")
-    ours = answers([str(OURS)], data)
-    theirs = answers(command, data)
+    ours = answers([str(OURS)], "".join(f"date\t{text}\n" for text in made).encode("utf-8"))
+    theirs = answers(command, "".join(f"{text}\n" for text in made).encode("utf-8"))
     wrong = 0
     for text, mine, other in zip(made, ours, theirs):
         if mine != other:

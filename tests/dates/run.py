@@ -1,4 +1,4 @@
-"""Runs date_lines on the tables beside this file: python3 tests/dates/run.py.
+"""Runs the dates of library_rows on the tables beside this file: python3 tests/dates/run.py.
 
 One line a failed case, and last `N passed, M failed`; status 0 only if none failed. Each canonical text
 is also given again, and must be answered as it stands with the same days. The slow reader of dates by which other tests
@@ -17,7 +17,7 @@ sys.path.append(str(HERE.parent))
 
 import calendars  # noqa: E402
 
-PROGRAM = HERE.parents[1] / "crates/date_lines/out/date_lines"
+PROGRAM = HERE.parents[1] / "crates/library_rows/out/library_rows"
 
 
 def rows(name):
@@ -26,7 +26,7 @@ def rows(name):
 
 
 def answers(texts):
-    data = "".join(text + "\n" for text in texts).encode("utf-8")
+    data = "".join(f"date\t{text}\n" for text in texts).encode("utf-8")
     out = subprocess.run([str(PROGRAM)], input=data, stdout=subprocess.PIPE, check=True, timeout=50).stdout
     return out.decode("utf-8").split("\n")[:-1]
 

@@ -2,8 +2,8 @@
 
     python3 tests/searches/keys.py [ROWS] [SEED]
 
-gives the worked rows and ROWS drawn ones to crates/search_rows/out/search_rows and compares. Unicode grows, and Python
-has its own version: the characters that are drawn are those that it knows, and whose folding did not change.
+gives the worked rows and ROWS drawn ones to crates/library_rows/out/library_rows and compares. Unicode grows, and
+Python has its own version: the characters that are drawn are those that it knows, and whose folding did not change.
 """
 
 from __future__ import annotations
@@ -15,7 +15,7 @@ import sys
 import unicodedata
 
 ROOT = os.path.dirname(os.path.dirname(os.path.dirname(os.path.realpath(__file__))))
-PROGRAM = os.path.join(ROOT, "crates", "search_rows", "out", "search_rows")
+PROGRAM = os.path.join(ROOT, "crates", "library_rows", "out", "library_rows")
 APOSTROPHES = "'`\u02bb\u02bc\u2018\u2019"
 PLAIN = {"ø": "o", "ł": "l", "đ": "d", "ð": "d", "þ": "th", "æ": "ae", "œ": "oe", "ı": "i"}
 PLAIN.update({letter.upper(): plain for letter, plain in PLAIN.items() if letter != "ı"})
@@ -129,7 +129,7 @@ def drawn(rows: int, seed: int) -> list[tuple[str, str, str]]:
 
 
 def answers(rows) -> list[str]:
-    given = "".join(f"{kind}\t{text}\t{asked}\n" for kind, text, asked in rows).encode()
+    given = "".join(f"search\t{kind}\t{text}\t{asked}\n" for kind, text, asked in rows).encode()
     done = subprocess.run([PROGRAM], input=given, stdout=subprocess.PIPE, check=True)
     return done.stdout.decode().split("\n")[:-1]
 

@@ -1,24 +1,11 @@
-//! Reads rows of standard input, each `name` or `text`, a text, and the words that are searched for, with tabs between,
-//! and writes whether they occur in it. A tool of tests and benchmarks, no part of the product.
-#![tactic(auto)]
+//! Whether the words that are searched for occur in a text: a row has `name` or `text`, the text and the words, with
+//! tabs between.
 
 use searching::{SearchText, SearchWords};
 use std::alloc::{AllocError, Global};
-use std::io::{self, BufRead, BufReader, BufWriter, Write};
-
-fn main(rt: HostRuntime) -> io::Result<()> {
-    let alloc = rt.alloc();
-    let mut out = BufWriter::new(alloc, io::writer(&rt))?;
-    for line in BufReader::new(alloc, rt.reader())?.lines(alloc) {
-        let answer = answer(alloc, line?.as_str())?;
-        out.write_all(answer.as_bytes())?;
-        out.write_all(b"\n")?;
-    }
-    out.flush()
-}
 
 /// What is written of a row.
-fn answer(alloc: Global, row: &str) -> Result<&'static str, AllocError> {
+pub(crate) fn answer(alloc: Global, row: &str) -> Result<&'static str, AllocError> {
     let Some((kind, rest)) = row.split_once('\t') else {
         return Ok("no row");
     };

@@ -3,7 +3,7 @@
 ghost use Rattle.std.specs.Prelude.{◌≡◌, Some, IfOk, codes};
 ghost use Rattle.room_requests.specs.Queries.{value_of};
 ghost use Rattle.room_requests.specs.Visits.{answer_to as page_answers};
-ghost use Rattle.visit_rows.specs.Room.{record_page, pedigree_page, generations_page, surname_page};
+ghost use Rattle.library_rows.specs.Room.{record_page, pedigree_page, generations_page, surname_page};
 
 use room_requests::{Answering, HeadRead, Page, PageFound, PageText, Pages, Query, answer_to};
 use std::alloc::{AllocError, Global};
@@ -14,7 +14,7 @@ pub(crate) struct TestRoom;
 
 impl Answering for TestRoom {
     ghost use Rattle.std.specs.Prelude.{⊤};
-    ghost use Rattle.visit_rows.specs.Room.{room};
+    ghost use Rattle.library_rows.specs.Room.{room};
 
     ghost answers = { λ _. page_answers room };
 
@@ -27,7 +27,7 @@ impl Answering for TestRoom {
 
 impl Pages for TestRoom {
     ghost use Rattle.std.specs.Prelude.{⊤};
-    ghost use Rattle.visit_rows.specs.Room.{room};
+    ghost use Rattle.library_rows.specs.Room.{room};
 
     ghost shows = { λ _. room };
 

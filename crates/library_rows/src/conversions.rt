@@ -1,28 +1,16 @@
-//! Converts the file of each line of standard input. A line has the word of a set, or `-`, and the bytes of the file in
-//! hexadecimal digits; it is answered by the set in which the file was read, what was written and what was reported, in
-//! such digits, or by why it was not, with the hint. A tool of tests, no part of the product.
-#![tactic(auto)]
+//! A file that is converted: a row has the word of a set, or `-`, and the bytes of the file in hexadecimal digits. The
+//! answer is the set in which the file was read, what was written and what was reported, in such digits, or why it was
+//! not, with the hint.
 
 use character_sets::CharacterSet;
 use conversion_reports::{Unconverted, convert_aloud};
 use devices::Counted;
 use file_conversion::ConversionError;
 use std::alloc::Global;
-use std::io::{self, BufRead, BufReader, BufWriter, ErrorKind, Write};
+use std::io::{self, ErrorKind};
 
-fn main(rt: HostRuntime) -> io::Result<()> {
-    let alloc = rt.alloc();
-    let mut out = BufWriter::new(alloc, io::writer(&rt))?;
-    for line in BufReader::new(alloc, rt.reader())?.lines(alloc) {
-        let answer = answer_line(alloc, line?.as_str())?;
-        out.write_all(answer.as_bytes())?;
-        out.write_all(b"\n")?;
-    }
-    out.flush()
-}
-
-/// What is written of a line.
-fn answer_line(alloc: Global, line: &str) -> io::Result<String> {
+/// What is written of a row.
+pub(crate) fn answer(alloc: Global, line: &str) -> io::Result<String> {
     let mut words = line.split(' ');
     let asked = set_of(words.next().unwrap_or("-"));
     let file = match hex::decode(alloc, words.next().unwrap_or("")) {

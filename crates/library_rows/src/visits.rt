@@ -1,31 +1,16 @@
-//! Answers the request of each line of standard input, by a room of its own: of a line with the most bytes that a read
-//! or a write moves, the read and the write that fail (0: none), and the bytes of the request in hexadecimal digits,
-//! what was answered and what was written. A tool of tests, no part of the product.
-#![tactic(auto)]
-
-mod faulty;
-mod room;
+//! A visit to a room of the tests' own: a row has the most bytes that a read or a write moves, the read and the write
+//! that fail (0: none), and the bytes of the request in hexadecimal digits. The answer is how the visit ended, and what
+//! was written.
 
 use crate::faulty::Faulty;
 use crate::room::TestRoom;
 use devices::Counted;
 use room_requests::{VisitError, answer_one};
 use std::alloc::Global;
-use std::io::{self, BufRead, BufReader, BufWriter, ErrorKind, Write};
+use std::io::{self, ErrorKind};
 
-fn main(rt: HostRuntime) -> io::Result<()> {
-    let alloc = rt.alloc();
-    let mut out = BufWriter::new(alloc, io::writer(&rt))?;
-    for line in BufReader::new(alloc, rt.reader())?.lines(alloc) {
-        let answer = answer_line(alloc, line?.as_str())?;
-        out.write_all(answer.as_bytes())?;
-        out.write_all(b"\n")?;
-    }
-    out.flush()
-}
-
-/// What is written of a line.
-fn answer_line(alloc: Global, line: &str) -> io::Result<String> {
+/// What is written of a row.
+pub(crate) fn answer(alloc: Global, line: &str) -> io::Result<String> {
     let mut words = line.split(' ');
     let piece = number(words.next())?.max(1);
     let read_fails = number(words.next())?;
