@@ -236,13 +236,13 @@ TOLD = (
     (",person,X,", "93 BadToken: field 1 (token): it is empty"),
     ("a b,person,X,", "93 BadToken: field 1 (token): it has another character than those from ! to ~"),
     ("t" * 65 + ",person,X,", "93 BadToken: field 1 (token): it has more than 64 characters"),
-    ("x", "92 FieldCount: there is no field behind the token"),
+    ("x", "92 FieldCount: there is no field after the token"),
     ("x,frob", "91 UnknownVerb: field 2 (verb): there is no such verb; verbs are small letters"),
     (
         "x,event,2,BIRT,,",
-        "92 FieldCount: the fields of event are owner, tag, value, date, place; behind the verb the row has 4",
+        "92 FieldCount: the fields of event are owner, tag, value, date, place; after the verb the row has 4",
     ),
-    ("x,person,X,M,F", "92 FieldCount: the fields of person are name, sex; behind the verb the row has 3"),
+    ("x,person,X,M,F", "92 FieldCount: the fields of person are name, sex; after the verb the row has 3"),
     ("x,person,X,m", "90 BadRow: field 4 (sex): neither empty nor M, F or U"),
     ("x,sex,1,", "90 BadRow: field 4 (sex): none of M, F and U"),
     ("x,name,0,X", "90 BadRow: field 3 (person): no number from 1 to 4294967295"),
@@ -321,13 +321,13 @@ def a_fault_is_told_behind_its_answer(tools):
             demand(line == answer, f"{line} for {answer}")
             if ",refused," in answer:
                 line, _, rest = rest.partition("\n")
-                demand(line.startswith(next(told)), f"{line} behind {answer}")
+                demand(line.startswith(next(told)), f"{line} after {answer}")
             got = Outcome(rest.encode(), b"", got.status)
         demand(got.out == b"", f"{got.out!r} is left")
 
 
 def an_open_quote(tools):
-    """A quote that is not closed takes the rows behind it into its field: there are fewer answers than rows."""
+    """A quote that is not closed takes the rows after it into its field: there are fewer answers than rows."""
     rows = b'a,person,Ann,F\nb,person,"Tom,M\nc,person,Eva,F\nd,person,Joe,M\n'
     with Folder(tools) as at:
         answered(at.made().apply(rows), b"a,ok,1,1\nb,refused,92,FieldCount\n")

@@ -90,7 +90,7 @@ def of_a_file(tools: Tools, word: str, stream: str) -> int:
 
 
 def of_a_room(tools: Tools) -> int:
-    """A visitor gets a beginning of the page, all of it where the room fails to read on behind it."""
+    """A visitor gets a prefix of the page, all of it if the room fails to read on after it."""
     whole = Undisturbed(tools, SHEET)
     with whole.copy() as at:
         library, (page, ended) = compiled(at.path), visited(at, GIVEN)

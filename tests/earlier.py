@@ -276,7 +276,7 @@ ALL = {**READ, **{text: (text, *ends) for text, ends in STAY.items()}}
 
 def of_each_date(merges: bool):
     """An archive with each of these texts as the date of an event and of an entry, with places and without, and all of
-    the events in a merge, before and behind: its records, its next number, its slips."""
+    the events in a merge, before and after: its records, its next number, its slips."""
     records = {1: person("Ann /Lee/", "Anne /Lee/"), 2: [(0, "place", "Ashby", None)],
                3: [(0, "source", "Ashby register", None)]}
     sides = []

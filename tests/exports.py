@@ -371,7 +371,7 @@ def a_reader_that_leaves(tools):
 
 
 def refused_memory(tools):
-    """1, or 80 where the database wanted it, behind a beginning; and the archive is as it was."""
+    """1, or 80 if the database wanted it, after a prefix; and the archive is as it was."""
     with Exported(tools) as at:
         at.with_rows(ARCHIVES["register entries, linked and not"][0])
         before = at.tables()

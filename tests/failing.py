@@ -21,7 +21,7 @@ def compiled(folder: str) -> str:
 
 
 def failing(library: str, on: str, passed: int, mark: str, *, once: bool = False) -> dict[str, str]:
-    """So many calls on a path, or on `in`, `out` or `room`, go well; then all fail, or the next one alone. The first
+    """So many calls on a path, or on `in`, `out` or `room`, go well; then all fail, or only the next one. The first
     that fails makes the file of the mark."""
     words = {"LD_PRELOAD": library, "FAIL_ON": on, "FAIL_AFTER": str(passed), "FAILED": mark}
     return {**os.environ, **words, **({"FAIL_ONCE": "1"} if once else {})}

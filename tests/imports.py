@@ -240,7 +240,7 @@ def an_input_that_fails(tools):
 
 
 def opened_again(at):
-    """The tables behind an opening, which takes out what an import left that did not end."""
+    """The tables after an opening, which removes what an import left that did not end."""
     told = run(at.parish, ("audit", at.file))
     demand(told.status == 0, f"the archive is not sound: {told.err!r}")
     return at.tables()

@@ -87,7 +87,7 @@ class File:
                     self.unknown(level + 1)
 
     def dropped(self):
-        """What stands behind the tag of a record, where mostly nothing does."""
+        """What stands after the tag of a record, where mostly nothing does."""
         return self.text() if self.some(0.1) else ""
 
     def person(self, name):

@@ -10,8 +10,8 @@
 `kills` gives ROWS generated rows (2,000) to `apply`, kills it KILLS times (20) at random moments and gives the same
 rows again: each answer has to be that of a run that was not stopped, and so have the tables. `killed-imports` gives a
 file of PERSONS persons (20,000) to `import`, kills it KILLS times (200), each time in a new archive, kills the
-opening behind it, which takes out what is left, and gives the file again; it tells how often nothing of the file was
-there behind a whole opening, all of it, how often rows of it were left before, and how often the opening was killed
+opening after it, which removes what is left, and gives the file again; it tells how often nothing of the file was
+there after a whole opening, all of it, how often rows of it were left before, and how often the opening was killed
 while it took them out. `killed-openings` kills KILLS times (20) the opening of an archive of the first version with
 PERSONS persons (20,000) and an import that was left open: what is left then has to be as it was or anew, and the next
 opening has to make it anew. `compare` gives ROWS rows (5,000), in archives of 200 rows each, to `apply` and to a second

@@ -2,7 +2,7 @@
 
     python3 tests/long_migrations.py [--parish COMMAND] [--persons N] [--kills N] [--seed N]
 
-The archive is written by statements alone, as version 1 kept records: N persons (20,000) with their events, families,
+The archive is written only by statements, as version 1 stored records: N persons (20,000) with their events, families,
 citations and register entries, dates that were none then, merges, receipts, and an import that was left open. Its
 opening is killed (SIGKILL) at `--kills` moments (24) spread over its time, at as many of its calls that change or sync
 the file or the log, and just before and after each sync; every fourth time the next opening is killed too. What is

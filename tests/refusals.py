@@ -2,7 +2,7 @@
 
 The crate of files and the crate of the archive each have a definition that gives a kind its number, and one
 that gives it its name; the calls `number` and `name` are proved to answer these. The crates of lines and of
-dates give their faults numbers alone. So the definitions are read here, and the table of the document.
+dates give their faults only numbers. So the definitions are read here, and the table of the document.
 """
 
 from __future__ import annotations
@@ -55,7 +55,7 @@ def kinds_of(path):
     text = text_of(path)
     numbers = numbers_of(path)
     names = once(NAME.findall(text), f"{path}, names")
-    demand(numbers.keys() == names.keys(), f"{path}: {numbers.keys() ^ names.keys()} has one alone")
+    demand(numbers.keys() == names.keys(), f"{path}: {numbers.keys() ^ names.keys()} has only one")
     return {kind: (number, names[kind]) for kind, number in numbers.items()}
 
 
@@ -63,7 +63,7 @@ def kinds_of_tables():
     """The numbers and names of what is wrong with a table, of which several kinds may have one."""
     text = text_of(TABLES)
     numbers, names = dict(NUMBER.findall(text)), dict(NAME.findall(text))
-    demand(numbers.keys() == names.keys(), f"{TABLES}: {numbers.keys() ^ names.keys()} has one alone")
+    demand(numbers.keys() == names.keys(), f"{TABLES}: {numbers.keys() ^ names.keys()} has only one")
     return {(int(number), names[kind]) for kind, number in numbers.items()}
 
 
@@ -77,7 +77,7 @@ def crates_agree():
     files, archive = kinds_of(FILES), kinds_of(ARCHIVE)
     for kind in files.keys() & archive.keys():
         demand(files[kind] == archive[kind], f"{kind}: {files[kind]} and {archive[kind]}")
-    # kinds of one crate alone have numbers and names that the other does not use
+    # kinds of only one crate have numbers and names that the other does not use
     once({*files.values(), *archive.values()}, f"{FILES} and {ARCHIVE}")
 
 
@@ -90,7 +90,7 @@ def dates_agree_with_the_archive():
 
 
 def agree(path, table):
-    """A crate has numbers alone, of kinds that another has with their names."""
+    """A crate has only numbers, of kinds that another has with their names."""
     kinds = kinds_of(table)
     for kind, number in numbers_of(path).items():
         told = kinds.get(kind, (None,))[0]

@@ -98,7 +98,7 @@ def each_command_that_reads(tools, version):
 
 
 def every_kind(tools, version):
-    """There are records of each kind in it, merges, one of them undone, and an import behind it."""
+    """There are records of each kind in it, merges, one of them undone, and an import after it."""
     with Released(tools, version) as at:
         tables = at.of().tables()
         kinds = {kind for _, kind, _ in tables["record"]}

@@ -54,7 +54,7 @@ class Room:
         return Outcome(out, err, self.process.returncode)
 
     def __exit__(self, kind, *_):
-        """The program ends by itself behind the last visit, with 0 and no word more."""
+        """The program ends by itself after the last visit, with 0 and no word more."""
         if kind:
             self.process.kill()
             self.process.communicate()

@@ -9,7 +9,7 @@ Each proof, run and test is that of `rt ci`, and so is its status; an `rt` that 
 
 - `rt ci` goes every way from a crate to those below it whenever it wants to know which they are, and that of some kits
   (rattle-kit-13b) also to know what they are made from: there are 5.1 million ways here, and to read the sources on
-  each is about two hours of one processor. Both answers depend on crates.txt and the sources alone, so they are
+  each is about two hours of one processor. Both answers depend only on crates.txt and the sources, so they are
   remembered; the run fails where one of these files differs at its end from what it was at its beginning.
 - It tries an edit by a check of the whole crate. Here the function that the edit changes is checked first, with what
   it calls (`--only`): if that is not proved, the crate is not. Any other edit is tried as by `rt ci`.

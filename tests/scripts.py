@@ -147,7 +147,7 @@ def passes_on(copy, **how):
 
 
 def demand_silent(err):
-    demand(err == b"told\n", f"standard error: wanted the program's alone, got {shown(err)}")
+    demand(err == b"told\n", f"standard error: wanted only the program's, got {shown(err)}")
 
 
 def last_line(got):
@@ -399,7 +399,7 @@ SCRIPTS = (
     ("./parish tells on one line of a terminal how far it is", on_a_terminal),
     ("./parish is interrupted", interrupted_each_way),
     ("./parish makes the program again after an edit", made_again_after_an_edit),
-    ("./parish makes the program of its crates alone, in a folder that goes", made_apart),
+    ("./parish makes the program of only its crates, in a folder that goes", made_apart),
     ("./parish makes nothing again where the program is the same", not_made_again),
     ("./parish runs no executable of other sources", made_again_where_another_build_left_it),
     ("./parish ends with 3 where the program is not proved", not_proved),

@@ -211,7 +211,7 @@ def outputs_that_fail(tools):
 
 
 def refused_memory(tools):
-    """1, or 80 where the database wanted it, behind a beginning; and the archive is as it was."""
+    """1, or 80 if the database wanted it, after a prefix; and the archive is as it was."""
     with Shown(tools) as at:
         before = at.with_rows(LEES).tables()
         each_growth_refused(

@@ -81,7 +81,7 @@ class Tables:
         self.put(number, [*lines[:place], line, *lines[place + 1 :]])
 
     def more(self, number: int, *lines: Line) -> None:
-        """Further lines behind the others."""
+        """Further lines after the others."""
         self.put(number, [*self.lines(number), *lines])
 
     def add(self, number: int, kind: str, lines: list[Line]) -> None:

@@ -1,7 +1,7 @@
 """Stops: each call of a command on one of an archive's two files fails in turn, or the power goes off after it.
 
 A command is done once to its end. Then, of the file and of the log beside it, so many calls go well and each one after
-them fails (fail.c), from none on until a run meets no such call; and the power goes off behind each write, cut and sync
+them fails (fail.c), from none on until a run meets no such call; and the power goes off after each write, cut and sync
 of both: what was not synced is lost, is there, or has old and new bytes. What is there then has to be what the first
 requests of the command make, all that were answered among them; the command given again has to answer and to leave what
 the undisturbed one did; and a new person then has the number that it has there. Of a command with many calls `./test`
@@ -60,7 +60,7 @@ def each_call(whole: Undisturbed, library: str, end: str, apart: int) -> int:
 
 @dataclass
 class Disk:
-    """A file: its bytes, those of the last sync, and the changes since, each a place with bytes, or a size alone."""
+    """A file: its bytes, those of the last sync, and the changes since, each a place with bytes, or only a size."""
 
     now: bytearray
     synced: bytes
@@ -124,7 +124,7 @@ def noted(whole: Undisturbed, library: str) -> list[tuple[str, list[str], bytes]
 
 
 def power_off(whole: Undisturbed, library: str, apart: int) -> int:
-    """The power goes off behind each call that changes or syncs a file; answers how many times."""
+    """The power goes off after each call that changes or syncs a file; answers how many times."""
     disks = {end: Disk(bytearray(image or b""), image or b"") for end, image in zip(ENDS, whole.images, strict=True)}
     calls = noted(whole, library)
     demand(len(calls) >= LEAST, f"only {len(calls)} calls")
@@ -138,7 +138,7 @@ def power_off(whole: Undisturbed, library: str, apart: int) -> int:
             try:
                 came_back(whole, tuple(disk.left(loss, rng) for disk in disks.values()), whole.answered(out))
             except Failed as failed:
-                raise Failed(f"the power went off behind call {number}, {loss}: {failed}") from None
+                raise Failed(f"the power went off after call {number}, {loss}: {failed}") from None
             stops += 1
     return stops
 

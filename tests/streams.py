@@ -138,24 +138,24 @@ def input_byte_by_byte(tools):
 
 
 def endless_file(tools):
-    # the limit is 1,024 times 65,536: of the lines of 65,536 bytes behind the header 1,023 end
+    # the limit is 1,024 times 65,536: of the lines of 65,536 bytes after the header 1,023 end
     # before it, so that 1,024 lines stand before the byte that passes it
     line = b" " * (65_536 - 4) + b"1 A\n"
     got = run(tools.parish, ("norm",), endlessly(HEAD, line))
     expect(got, refused(27, 1_025))
-    demand(not got.took_all, "it read on behind the limit of a file")
+    demand(not got.took_all, "it read on after the limit of a file")
 
 
 def endless_line(tools):
     got = run(tools.parish, ("norm",), endlessly(HEAD + b"1 ", b"T" * 65_536))
     expect(got, refused(14, 2))
-    demand(not got.took_all, "it read on behind the limit of a line")
+    demand(not got.took_all, "it read on after the limit of a line")
 
 
 def endless_blank_lines(tools):
     got = run(tools.parish, ("norm",), endlessly(HEAD + TRLR, b"\n" * 65_536))
     expect(got, refused(27, 3))
-    demand(not got.took_all, "it read on behind the limit of a file")
+    demand(not got.took_all, "it read on after the limit of a file")
 
 
 def called(tools, name, words, given=b""):

@@ -37,7 +37,7 @@ def answered_within(one: socket.socket, seconds: int) -> bytes:
 
 
 def so_many_visits(tools):
-    """The room ends behind the last one, whatever the visits were, and nobody is let in then."""
+    """The room ends after the last one, whatever the visits were, and nobody is let in then."""
     with Shown(tools) as at:
         at.with_rows(SMITHS)
         with Room(at, 0):

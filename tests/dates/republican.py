@@ -49,4 +49,4 @@ def cases():
     for year in range(1, 15):
         for month in range(1, 14):
             text = f"@#DFRENCH R@ {length(year, month) + 1} {MONTHS[month - 1]} {year}"
-            yield "a day behind the last of its month", text, None
+            yield "a day after the last of its month", text, None

@@ -227,7 +227,7 @@ pub(crate) const LAST_DAY: Word = Word {
 
 pub(crate) const WORDS: Word = Word {
     id: "words",
-    help: "Tell behind each number what it is, its date and its place",
+    help: "Say after each number what it is, its date and its place",
     form: Form::Flag,
     needed: false,
     numbers: None,

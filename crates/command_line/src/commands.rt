@@ -38,8 +38,8 @@ const STREAMS: &str = "\
 FILE is the archive; a log may lie beside it. The GEDCOM file or the rows of
 requests come from standard input. Standard output gets the result. Standard
 error gets a refusal, as one line: parish: <no.> <Name>, with `at line <n>`
-behind it where a line of a GEDCOM file is at fault, and `at row <n>` where a
-row of a batch is; of `apply` also what is wrong with each refused row, and of
+after it if a line of a GEDCOM file is at fault, and `at row <n>` if a row of a
+batch is; of `apply` also what is wrong with each refused row, and of
 `audit` the record that breaks a rule.
 
 Exit status:

@@ -195,7 +195,7 @@ macintosh ansel)'
             '1:The file of the archive:_files' \\
             '--from[The first of the days]:YYYY-MM-DD:' \\
             '--to[The last of the days]:YYYY-MM-DD:' \\
-            '--words[Tell behind each number what it is, its date and its place]'
+            '--words[Say after each number what it is, its date and its place]'
         ;;
     list)
         _arguments '--help[Print help]' \\

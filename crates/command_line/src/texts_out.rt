@@ -57,8 +57,8 @@ archive holds, the living too. The archive is not changed. At a refusal a
 beginning of the file may have been written.
 
 With --public nothing is written but what may be shown on the day of --today: of
-who is living then the number, the name `Living` and the places in families
-alone. docs/LIVING.md, beside the source of parish, has the rules.
+who is living then only the number, the name `Living` and the places in
+families. docs/LIVING.md, beside the source of parish, has the rules.
 
 With --plain the file is for other programs: places only by their names, who took
 part in an event as ASSO and notes, register entries as citations and notes of
@@ -105,7 +105,7 @@ Example:
 pub(crate) const SERVE_ABOUT: &str = "Show the archive to the browsers of this machine";
 
 pub(crate) const SERVE_EXAMPLE: &str = "\
-The archive is read once, and FILE is left alone then. What may be shown of it on
+The archive is read once, and then FILE is not used. What may be shown of it on
 the day of --today, as docs/LIVING.md tells, is given to each visitor who asks: as
 text, or with --html as pages of HTML with links and a search.
 `listening on 127.0.0.1:<port>` is printed, and N visitors are answered one after
@@ -150,7 +150,7 @@ the event or entry, its date and its place, with two spaces between them. The
 living are not hidden: the archive is not changed, and nothing is for visitors.
 
 Refusals:
-  87 DaysReversed  the first day is behind the last
+  87 DaysReversed  the first day is after the last
   40 BadStored     what is stored is no record: somebody else wrote FILE
   82 NotAnArchive  there is no FILE, or it is no archive
   95 WriteFailed   standard output could not be written

@@ -74,5 +74,5 @@ fn fields_words(
 fn count_words(alloc: Global, verb: Verb, has: usize) -> Result<String, AllocError> {
     let word = verb.as_str();
     let names = names_of(verb);
-    format!(in alloc; "the fields of {word} are {names}; behind the verb the row has {has}")
+    format!(in alloc; "the fields of {word} are {names}; after the verb the row has {has}")
 }

@@ -177,7 +177,7 @@ pub(crate) fn field_count(row: &ByteRecord) -> Finding {
             has: row.len().saturating_sub(FIELDS),
         },
         None => Finding::Row {
-            what: "there is no field behind the token",
+            what: "there is no field after the token",
         },
     }
 }
