@@ -1,8 +1,8 @@
-"""No sheet, page, public export or refusal of drawn archives has a word that only hidden records hold. In these
-archives each text is a word that comes once (shown/drawn.py). A word that on that day only hidden records hold must
-be in no sheet of any number and kind, on no page of the room, in no head of an answer, in no public export and in no
-refusal. Which words these are is decided by a second reading of docs/LIVING.md (masking/rules.py), and not by the
-program.
+"""No sheet, page, page of HTML, public export or refusal of drawn archives has a word that only hidden records hold,
+and a search for such a word is answered as one for a word that is nowhere. In these archives each text is a word that
+comes once (shown/drawn.py). A word that on that day only hidden records hold must be in no sheet of any number and
+kind, on no page of the rooms, in no head of an answer, in no public export and in no refusal. Which words these are is
+decided by a second reading of docs/LIVING.md (masking/rules.py), and not by the program.
 
     python3 tests/leaks.py [--parish COMMAND] [ARCHIVES [SEED]]
 
@@ -30,6 +30,7 @@ from shown.records import Person  # noqa: E402
 from visits import request  # noqa: E402
 
 WORD = re.compile(rb"zq\d{4}|\d\d [A-Z]{3} \d{4}")
+WORD_ALONE = re.compile(rb"zq\d{4}")
 DAYS = (-1, 0, 1, 200)  # from TODAY
 
 
@@ -52,6 +53,35 @@ def targets_of(drawn) -> list[str]:
     return targets
 
 
+def html_targets_of(drawn) -> list[str]:
+    """Pages of HTML by each number and each surname, and what a search for a word finds."""
+    targets = targets_of(drawn) + ["/style.css", "/search", "/search?q=", "/search?q=living", "/search?q=z&page=2"]
+    targets += [f"/register/{number}?page=1" for number in range(len(drawn.records) + 2)]
+    return targets + [target.replace("/surname?name=", "/search?q=") for target in targets if "name=zq" in target]
+
+
+def pages_of(at, drawn, today: str):
+    """What a room of HTML answers, but for the words that a visitor asks for, which may come back."""
+    targets = html_targets_of(drawn)
+    with Room(at, len(targets), today, ("--html",)) as room:
+        for place, target in enumerate(targets):
+            got = room.asked(request(target, "HEAD" if place % 50 == 7 else "GET"))
+            asked = WORD.findall(target.encode())
+            yield f"the page of HTML {target}", got.replace(asked[0], b"") if asked else got
+
+
+def searches_of(at, words: list[bytes], today: str) -> None:
+    """Hidden words are answered as a word that is nowhere."""
+    forms = [f"{path}{{}}" for path in ("/search?q=", "/surname?name=", "/search?page=2&q=")]
+    with Room(at, len(forms) * (len(words) + 1), today, ("--html",)) as room:
+        for form in forms:
+            nowhere = room.asked(request(form.format("zz0000")))
+            for word in words:
+                got = room.asked(request(form.format(word.decode())))
+                alike = got.replace(word, b"zz0000") == nowhere
+                demand(alike, f"{form.format(word.decode())} is answered otherwise than a word that is nowhere")
+
+
 def told_of(at, drawn, today: str):
     """All that is told of an archive on a day, each with what it is of."""
     got = at.public(today)
@@ -64,6 +94,7 @@ def told_of(at, drawn, today: str):
     with Room(at, len(targets), today) as room:
         for place, target in enumerate(targets):
             yield f"the page {target}", room.asked(request(target, "HEAD" if place % 50 == 7 else "GET"))
+    yield from pages_of(at, drawn, today)
 
 
 def searched(tools, seed: int, number: int) -> int:
@@ -83,6 +114,7 @@ def searched(tools, seed: int, number: int) -> int:
         for what, text in told_of(at, drawn, date_of(day).isoformat()):
             found = hidden.search(text)
             demand(not found, f"archive {number} of seed {seed}: {what} has {found and found[0]!r}, which is hidden")
+        searches_of(at, [word for word in words if WORD_ALONE.fullmatch(word)][:8], date_of(day).isoformat())
     return len(words)
 
 

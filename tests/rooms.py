@@ -28,15 +28,15 @@ def free_port() -> int:
 
 
 class Room:
-    """The room of an archive, open for so many visits."""
+    """The room of an archive, open for so many visits; of further words is `--html`."""
 
-    def __init__(self, at, count, today=TODAY):
-        self.at, self.count, self.today = at, count, today
+    def __init__(self, at, count, today=TODAY, more=()):
+        self.at, self.count, self.today, self.more = at, count, today, more
 
     def __enter__(self):
         for _ in range(20):  # a port that was free may be taken meanwhile
             self.port = free_port()
-            words = ["--port", str(self.port), "--count", str(self.count), "--today", self.today]
+            words = ["--port", str(self.port), "--count", str(self.count), "--today", self.today, *self.more]
             pipes = {"stdin": subprocess.DEVNULL, "stdout": subprocess.PIPE, "stderr": subprocess.PIPE}
             self.process = subprocess.Popen([*self.at.parish, "serve", self.at.file, *words], **pipes)
             self.said = self.process.stdout.readline()

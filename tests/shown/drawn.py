@@ -33,9 +33,9 @@ class Archive(NamedTuple):
 
 
 class Drawing:
-    def __init__(self, seed: str):
+    def __init__(self, seed: str, words: int = 0):
         self.draw = random.Random(seed)
-        self.words = 0
+        self.words = words
         self.days: set[int] = set()
         self.made: dict = {}
 
@@ -177,8 +177,9 @@ def numbered_anew(record, new: dict):
     return record
 
 
-def archive(seed: int, number: int = 0) -> Archive:
-    one = Drawing(f"{seed} {number}")
+def archive(seed: int, number: int = 0, words: int = 0) -> Archive:
+    """The archive of that number, whose first word comes after so many others."""
+    one = Drawing(f"{seed} {number}", words)
     file = File(one.all_records())
     first = [number for number, record in file.records.items() if isinstance(record, (Place, Repo, Source))]
     rest = [number for number, record in file.records.items() if isinstance(record, (Person, Family, Entry, Other))]
