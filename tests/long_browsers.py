@@ -40,6 +40,8 @@ POINTER = re.compile(rb"@([A-Z]+\d+)@")
 EACH = 1_000  # words of an archive, at most
 DAY = date_of(TODAY).isoformat()
 LARGEST = 65_536
+FRAMES = r"[\[\]_]"  # of fields and buttons, as browsers of texts draw them
+SEEDS = ("/", "/surname?name=", "/search?q=z")  # each drawn word begins with z
 KINDS = (
     ("first page", "/"), ("person", "/person/"), ("family", "/family/"), ("pedigree", "/pedigree/"),
     ("register", "/register/"), ("surname", "/surname"), ("search", "/search"),
@@ -98,7 +100,7 @@ class Drawn:
     """So many drawn archives as one file, and the words that only hidden records of it hold."""
 
     def __init__(self, archives: int, seed: int):
-        self.lines, hidden = [], set()
+        self.archives, self.lines, hidden = archives, [], set()
         for number in range(archives):
             one = archive(seed, number, number * EACH)
             body = one.file.removeprefix(b"0 HEAD\n").removesuffix(b"0 TRLR\n")
@@ -127,9 +129,9 @@ class Visitor:
         return self.pages[target]
 
     def all_pages(self) -> dict[str, bytes]:
-        """Every page that the first leads to."""
-        waiting = collections.deque(["/"])
-        seen = {"/"}
+        """Every page that these lead to."""
+        waiting = collections.deque(SEEDS)
+        seen = set(SEEDS)
         while waiting:
             target = waiting.popleft()
             body = self.page(target)
@@ -150,20 +152,23 @@ def of_kind(pages: dict[str, bytes], front: str) -> str:
 
 def links_and_words(pages, drawn):
     registers = sum(it.startswith("/register/") for it in pages)
-    demand(len(pages) > 300 and registers > 10, f"only {len(pages)} pages, {registers} of registers")
+    demand(min(len(pages) / 5, registers) > drawn.archives, f"only {len(pages)} pages, {registers} of registers")
     for target, body in pages.items():
         found = set(WORD.findall(body)) & drawn.hidden
         demand(not found, f"{target} has {sorted(found)[:3]}, which are hidden")
         demand(len(body) < LARGEST or target.startswith("/pedigree/"), f"{target} has {len(body)} bytes")
     words = set(WORD.findall(b"".join(pages.values())))
-    demand(len(words) > 1_000 and len(drawn.hidden) > 1_000, f"{len(words)} words, {len(drawn.hidden)} are hidden")
+    few = min(len(words), len(drawn.hidden)) < 10 * drawn.archives
+    demand(not few, f"only {len(words)} words, and {len(drawn.hidden)} hidden ones")
 
 
 def valid(pages):
     for target, body in pages.items():
         if target.endswith(".css"):
             continue
-        got = subprocess.run(["tidy", "-q", "-e", "-utf8"], input=body, capture_output=True, check=False)
+        # (a list of nothing is right in HTML 5, and tidy warns only that it would leave it out)
+        words = ["tidy", "-q", "-e", "-utf8", "--drop-empty-elements", "no"]
+        got = subprocess.run(words, input=body, capture_output=True, check=False)
         demand(got.returncode == 0 and not got.stderr, f"{target}: {got.stderr.decode()[:300]}")
 
 
@@ -173,9 +178,9 @@ def shown_by(words: tuple[str, ...], room, pages):
         target = of_kind(pages, front)
         got = subprocess.run([*words, f"http://127.0.0.1:{room.port}{target}"], capture_output=True, timeout=120,
                              check=True)
-        told = iter(re.sub(r"[_\\[\\]*+o•]", " ", got.stdout.decode()).split())
+        told = iter(re.sub(FRAMES, " ", got.stdout.decode()).split())
         for word in Page(pages[target].decode()).words():
-            wanted = re.sub(r"[_\\[\\]*+o•]", " ", word).split()
+            wanted = re.sub(FRAMES, " ", word).split()
             for part in wanted:
                 demand(part in told, f"{words[0]} does not show {part!r} of {target}")
 
@@ -319,9 +324,9 @@ def main():
     drawn, browser = Drawn(given.archives, given.seed), Chromium()
     passed = failed = 0
     with Shown(tools) as at:
-        got = at.made().import_(drawn.file)
+        got = at.made().import_(drawn.file, limit=900)
         demand(got.status == 0, f"the file is refused: {got.err[:200]!r}")
-        room = Room(at, 4_000_000, DAY, ("--html",)).__enter__()
+        room = Room(at, 1_000_000, DAY, ("--html",)).__enter__()
         try:
             for case in cases(room, drawn, browser):
                 if given.only not in case.name:
