@@ -49,6 +49,13 @@ SHOWN = {
     12: ("source: 10\nkind: BURIAL\npage: f. 3\nitem: 4\ndate: 1 MAY 1860\nplace: 6\ntext: Ann of Ashby buried\n"
          "buried: Ann Müller\nperson: 1\nreason: same farm\nspouse: Tom\n", (10, 6, 1), ()),
 }
+# The owner of each event and citation, and what is shown of it with that one.
+OWNERS = {7: 3, 8: 4, 11: 7}
+DETAILS = {
+    7: "  place: 6  place  Ashby\n  with: 2  person  Tom O’Neil\n  role: witness\n",
+    8: "",
+    11: "  source: 10  source  Register of Ashby\n  quality: 2\n",
+}
 LISTED = (
     (("persons",), (1, 2, 3)),
     (("families",), (4,)),
@@ -153,8 +160,8 @@ def said_of(more):
 
 def whole(number):
     fields, names, named_by = SHOWN[number]
-    named = "".join(f"names: {line(n)}" for n in names) + "".join(f"named by: {line(n)}" for n in named_by)
-    return line(number) + fields + named
+    namers = (f"named by: {line(n)}{DETAILS[n] if OWNERS.get(n) == number else ''}" for n in named_by)
+    return line(number) + fields + "".join(f"names: {line(n)}" for n in names) + "".join(namers)
 
 
 class Listed(Imported):
@@ -205,6 +212,25 @@ def records_by_hand(tools):
         for numbers in ((3, 1), (7, 7), tuple(LINES)):
             expect(at.show(*numbers), written("\n".join(map(whole, numbers)).encode()))
         demand(at.tables() == before, "the tables changed")
+
+
+def events_and_citations_of_a_person(tools):
+    """What their lines leave out is below them, if there is any."""
+    with Listed(tools) as at:
+        at.with_rows(('a,person,Ann /Lee/,F', 'b,event,1,RESI,"farm\nby the mill",,', "c,source,Book,,,,",
+                      "d,citation,1,3,,", "e,citation,2,3,p. 9,0", "f,event,1,BAPM,,1761,", "g,participant,6,1,"))
+        book = "  source: 3  source  Book\n"
+        expect(at.show(1), written((
+            "1  person  Ann Lee\nname: Ann /Lee/\nsex: F\n"
+            "named by: 2  event  RESI  of 1\n  value: farm by the mill\n"
+            f"named by: 4  citation  of 1  source 3\n{book}"
+            "named by: 6  event  BAPM  1761  of 1\n  with: 1  person  Ann Lee\n  role: \n").encode()))
+        expect(at.show(2), written((
+            "2  event  RESI  of 1\nof: 1\ntag: RESI\nvalue: farm by the mill\nnames: 1  person  Ann Lee\n"
+            f"named by: 5  citation  of 2  source 3, page p. 9\n{book}  quality: 0\n").encode()))
+        expect(at.show(3), written((
+            "3  source  Book\ntitle: Book\nnamed by: 4  citation  of 1  source 3\n"
+            "named by: 5  citation  of 2  source 3, page p. 9\n").encode()))
 
 
 def lines_that_no_field_takes(tools):
@@ -396,6 +422,7 @@ TESTS = (
     lists_by_hand,
     searches_by_hand,
     records_by_hand,
+    events_and_citations_of_a_person,
     lines_that_no_field_takes,
     nobody_is_masked,
     characters_that_are_not_printed,

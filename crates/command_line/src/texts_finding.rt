@@ -50,9 +50,10 @@ pub(crate) const SHOW_ABOUT: &str = "Show records whole";
 
 pub(crate) const SHOW_EXAMPLE: &str = "\
 NO is the number of a record. Each is printed with all that it has, and with what
-names it. The number that a merge was answered shows who was merged into whom, and
-the records that it changed as they were before. The living are not hidden: the
-archive is not changed, and nothing is for visitors.
+names it, its events and citations in full. The number that a merge was answered
+shows who was merged into whom, and the records that it changed as they were
+before. The living are not hidden: the archive is not changed, and nothing is for
+visitors.
 
 Refusals:
   50 NoSuch        a number names nothing

@@ -1,3 +1,4 @@
+pub mod Details
 pub mod Fields
 pub mod Heads
 pub mod Named

@@ -6,7 +6,6 @@ use Rattle.std.specs.Prelude.{
   List,
   ◌++◌,
   codes,
-  decimal,
   map,
   chars,
   encode_utf8_all,
@@ -22,6 +21,7 @@ use Rattle.archive_state.specs.Content.{Content, Records}
 use Rattle.archive_state.specs.Referrers.{referrers}
 use Rattle.archive_state.specs.Slips.{Slip}
 use Rattle.searching.specs.Printing.{shown_character}
+use Rattle.showing.specs.Details.{at_number, line_at, details}
 use Rattle.showing.specs.Fields.{fields}
 use Rattle.showing.specs.Heads.{head}
 use Rattle.showing.specs.Named.{named}
@@ -34,29 +34,25 @@ shown_in_page c = if c == 10 then 10 else shown_character c
 abbrev pub shown_page : List ℕ → List ℕ
 shown_page text = encode_utf8_all (map shown_in_page (chars text))
 
--- a number with what stands there, after a word
-abbrev pub at_number : ℕ → Option Record → List ℕ
-at_number n None = decimal n ++ codes "\n"
-at_number n (Some r) = head n r
-
-abbrev pub behind : List ℕ → Records → ℕ → List ℕ
-behind word m n = word ++ at_number n (get m n)
-
 abbrev pub names_word : List ℕ
 names_word = codes "names: "
 
 abbrev pub named_by_word : List ℕ
 named_by_word = codes "named by: "
 
--- its line, its fields, what they name, and what names it, each by a line
+-- the line of a record that names another, and of an event or a citation of that one more than its line
+abbrev pub naming : Records → ℕ → ℕ → List ℕ
+naming m n by = named_by_word ++ (at_number by (get m by) ++ details m n (get m by))
+
+-- its line, its fields, what they name by a line each, and what names it
 abbrev pub whole : Content → ℕ → Record → List ℕ
-whole c n r = head n r ++ (fields r ++ (flat_map (behind names_word c.records) (named r)
-    ++ flat_map (behind named_by_word c.records) (referrers c n)))
+whole c n r = head n r ++ (fields r ++ (flat_map (line_at names_word c.records) (named r)
+    ++ flat_map (naming c.records n) (referrers c n)))
 
 -- what is kept of a merge: who was merged into whom, whether it was undone, the records that it changed as they were
 -- before, and the person that stays
 abbrev pub whole_slip : Content → ℕ → Slip → List ℕ
-whole_slip c n s = slip_fields n s ++ behind names_word c.records s.keep
+whole_slip c n s = slip_fields n s ++ line_at names_word c.records s.keep
 
 -- the record of a number, or else the slip
 abbrev pub shown_of : Content → ℕ → Option Record → Option Slip → Option (List ℕ)

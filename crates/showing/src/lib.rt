@@ -8,10 +8,12 @@
 //! is in it; nothing is changed.
 #![tactic(auto)]
 
+mod details;
 mod entries;
 mod events;
 mod fields;
 mod named;
+mod numbers;
 mod persons;
 mod showing;
 mod slip_lists;

@@ -6,15 +6,18 @@ ghost use Rattle.std.specs.List.{flat_map};
 ghost use Rattle.archive_state.specs.Referrers.{referrers};
 ghost use Rattle.archive_state.specs.Looks.{CountsFailures, Looked};
 ghost use Rattle.archive_state.specs.Views.{On};
+ghost use Rattle.showing.specs.Details.{at_number, details};
 ghost use Rattle.showing.specs.Fields as fields;
 ghost use Rattle.showing.specs.Heads as heads;
 ghost use Rattle.showing.specs.Named as names;
 ghost use Rattle.showing.specs.Shown as shown;
 ghost use Rattle.showing.specs.Slips as slips;
 
+use crate::details::push_details;
 use crate::entries::{push_entry, push_other};
 use crate::events::push_event;
 use crate::named::named;
+use crate::numbers::{push_all, push_at, push_this};
 use crate::persons::{push_family, push_person};
 use crate::slips::{push_head, push_slip};
 use crate::sources::{push_citation, push_place, push_repo, push_source};
@@ -148,6 +151,7 @@ fn whole<V: View>(
     Ok(out)
 }
 
+/// What names the record, by number.
 fn push_named_by<V: View>(
     alloc: Global,
     view: &mut V,
@@ -155,64 +159,61 @@ fn push_named_by<V: View>(
     number: u32,
 ) -> Result<(), RefusalKind>
     ensures shows { On V.View view.old view.new (λ c. Looked result (λ _. string_bytes out.new
-        ≡ string_bytes out.old ++ flat_map (shown.behind shown.named_by_word c.records) (referrers c number))) }
+        ≡ string_bytes out.old ++ flat_map (shown.naming c.records number) (referrers c number))) }
     ensures counts { CountsFailures (V.failed view.old) (V.failed view.new) result }
 {
     let numbers = view.referrers(alloc, number)?;
-    push_all(alloc, view, out, "named by: ", &numbers)
+    push_all_naming(alloc, view, out, number, &numbers)
 }
 
-/// A line for each of the numbers, after a word.
-fn push_all<V: View>(
+/// The records of these numbers, which name one of that number.
+fn push_all_naming<V: View>(
     alloc: Global,
     view: &mut V,
     out: &mut String,
-    word: &str,
+    owner: u32,
     numbers: &[u32],
 ) -> Result<(), RefusalKind>
     ensures shows { On V.View view.old view.new (λ c. Looked result (λ _. string_bytes out.new
-        ≡ string_bytes out.old ++ flat_map (shown.behind word.now c.records) numbers.now)) }
+        ≡ string_bytes out.old ++ flat_map (shown.naming c.records owner) numbers.now)) }
     ensures counts { CountsFailures (V.failed view.old) (V.failed view.new) result }
 {
     'each: for number in numbers {
-        push_at(alloc, view, out, word, *number)?;
+        push_naming(alloc, view, out, owner, *number)?;
     }
     Ok(())
 }
 
-fn push_at<V: View>(
+fn push_naming<V: View>(
     alloc: Global,
     view: &mut V,
     out: &mut String,
-    word: &str,
+    owner: u32,
     number: u32,
 ) -> Result<(), RefusalKind>
     ensures shows { On V.View view.old view.new (λ c. Looked result (λ _. string_bytes out.new
-        ≡ string_bytes out.old ++ shown.behind word.now c.records number)) }
+        ≡ string_bytes out.old ++ shown.naming c.records owner number)) }
     ensures counts { CountsFailures (V.failed view.old) (V.failed view.new) result }
 {
     let found = view.record_at(alloc, number)?;
-    match push_found(alloc, out, word, number, found) {
-        Ok(()) => Ok(()),
-        Err(_) => Err(RefusalKind::OutOfMemory),
-    }
+    push_naming_found(alloc, view, out, owner, number, found)
 }
 
-/// A number with what stands there, after a word. The record is given back here.
-fn push_found(
+/// The same of what stands at the number. The record is given back here.
+fn push_naming_found<V: View>(
     alloc: Global,
+    view: &mut V,
     out: &mut String,
-    word: &str,
+    owner: u32,
     number: u32,
     found: Option<Record>,
-) -> Result<(), AllocError>
-    ensures { OnOk result (string_bytes out.new ≡ string_bytes out.old ++ (word.now ++ shown.at_number number found)) }
+) -> Result<(), RefusalKind>
+    ensures shows { On V.View view.old view.new (λ c. Looked result (λ _. string_bytes out.new ≡ string_bytes out.old
+        ++ (shown.named_by_word ++ (at_number number found ++ details c.records owner found)))) }
+    ensures counts { CountsFailures (V.failed view.old) (V.failed view.new) result }
 {
-    out.push_str(word)?;
-    match &found {
-        None => write!(out, "{number}\n"),
-        Some(record) => push_head(alloc, out, number, record),
-    }
+    push_this(alloc, out, "named by: ", number, &found)?;
+    push_details(alloc, view, out, owner, &found)
 }
 
 /// The line of a slip, its fields and what it changed.
