@@ -44,7 +44,7 @@ front_begins f x p y e h =
           ∙ take-append-add p y (length f - length p),
     )
 
-overfull : (front rest : List ℕ) → IsOverfull front → HasManyLines (front ++ rest) ⊎ IsLong (front ++ rest)
+pub overfull : (front rest : List ℕ) → IsOverfull front → HasManyLines (front ++ rest) ⊎ IsLong (front ++ rest)
 overfull front rest (inl (exceeds, overflows)) = inl (record {
   exceeds = (
     exceeds.0,
@@ -67,7 +67,7 @@ too_large_begins None new front taken shows = tt
 too_large_begins (Some input) None front taken shows = absurd taken
 too_large_begins (Some input) (Some rest) front taken shows = rw taken (overfull front rest shows)
 
-whole : (front rest : List ℕ) (lines : List HeaderSpan) (spans : RequestSpans) (head : Head)
+pub whole : (front rest : List ℕ) (lines : List HeaderSpan) (spans : RequestSpans) (head : Head)
     → length front ≤ 8192 → length lines ≡ 64 → IsRequestWithin front lines spans
     → IsCopied front lines spans head → Begins (front ++ rest) (read.Whole head)
 whole front rest lines spans head size room within (h, at, same) =

@@ -4,6 +4,7 @@ pub mod HeadDecided
 pub mod Few
 pub mod Filled
 pub mod Undecided
+pub mod Fronted
 pub mod Fronts
 pub mod Literals
 pub mod Numbers

@@ -8,3 +8,4 @@ pub mod Queries
 pub mod Targets
 pub mod Replies
 pub mod Visits
+pub mod Arriving

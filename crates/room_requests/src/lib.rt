@@ -6,6 +6,7 @@
 //! - `laws`, `replies`, `sending`: answers of the reading room, as bytes, and their way to a visitor.
 //! - `answering`, `laws`, `pages`, `visit`: one visit: one request read, and one answer written, over any reader and
 //!   writer and whoever answers, by pages or otherwise.
+//! - `arriving`: the answer to a connection of which bytes come now and then, as soon as they decide it.
 //!
 //! Callers may rely on:
 //! - no more than 8,192 bytes are taken, and none once the head has ended or is ruled out; what is answered depends on
@@ -20,6 +21,7 @@
 #![tactic(auto)]
 
 mod answering;
+mod arriving;
 mod asked;
 mod head;
 pub mod laws;
@@ -34,6 +36,7 @@ mod target;
 mod visit;
 
 pub use answering::Answering;
+pub use arriving::{answer_at_end, answer_so_far};
 pub use asked::{has_right_hosts, is_head, only_reads};
 pub use head::{Head, HeadRead};
 pub use number::number_in;

@@ -26,10 +26,10 @@ use std::io;
 use std::io::{ErrorKind, Read};
 
 /// The most bytes of a head, the empty lines before it counted.
-const HEAD_LIMIT: usize = 8_192;
+pub(crate) const HEAD_LIMIT: usize = 8_192;
 
 /// The most header lines of a head.
-const LINE_LIMIT: usize = 64;
+pub(crate) const LINE_LIMIT: usize = 64;
 
 /// What the bytes that were read so far show.
 #[derive(Clone, Copy, Debug, PartialEq, Eq)]
@@ -118,7 +118,7 @@ fn at_end(filled: usize) -> Found
 }
 
 /// What bytes show, whatever follows. `None`: no head ends within them, and one may come.
-fn judge(front: &[u8], lines: &mut [HeaderSpan]) -> Option<Found>
+pub(crate) fn judge(front: &[u8], lines: &mut [HeaderSpan]) -> Option<Found>
     requires { length lines.old ≡ 64 }
     ensures room { length lines.new ≡ length lines.old }
     ensures judged { MatchOption result (IsUndecided front.now) (IsJudged front.now lines.new) }
@@ -132,7 +132,7 @@ fn judge(front: &[u8], lines: &mut [HeaderSpan]) -> Option<Found>
 }
 
 /// What is looked at of the head whose parts the spans cover, in memory of its own.
-fn copy_head(
+pub(crate) fn copy_head(
     alloc: Global,
     front: &[u8],
     lines: &[HeaderSpan],
