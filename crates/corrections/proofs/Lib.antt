@@ -1,5 +1,5 @@
 mod Changing
-mod Outcomes
+pub mod Outcomes
 mod Positions
 mod Repeated
 mod Same

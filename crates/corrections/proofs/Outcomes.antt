@@ -21,11 +21,14 @@ use Rattle.std.specs.Prelude.{
   Result,
   Ok,
   Err,
+  IfErr,
   IfOk,
   refl,
   if◌then◌else◌,
 }
-use Rattle.std.proofs.Common.{ap, ◌∙◌}
+use Rattle.std.proofs.Common.{ap, sym, ◌∙◌}
+use Rattle.record_text.specs.declared.refusal.RefusalKind.{RefusalKind}
+use Rattle.record_text.specs.declared.refusal.RefusalKind.TheVariants.{NoSuchField, BadText, NotOfKind}
 use Rattle.record_fields.specs.Words.{role_of}
 use Rattle.record_fields.specs.declared.entry_words.Role.{Role}
 use Rattle.record_kinds.specs.Model as model
@@ -55,17 +58,17 @@ use Rattle.corrections.specs.Laws.{
   LaterCounts,
   LeavesCarriedLines,
   LeavesOtherFields,
+  RefusesItself,
   RefusesOtherFields,
   apart,
   carried_of,
+  is_own,
   takes_away,
 }
 use Rattle.corrections.specs.Lists.{changed_at}
 use Rattle.corrections.proofs.Same.{of_date, of_item, of_place, of_quality, of_repository, of_sex, of_tag, of_text}
 use Rattle.corrections.specs.declared.correction.Correction.{Correction}
 use Rattle.corrections.specs.declared.correction.Correction.TheVariants as value
-use Rattle.corrections.specs.declared.correction.Refused.{Refused}
-use Rattle.corrections.specs.declared.correction.Refused.TheVariants.{NoSuchField, BadText, NotOfKind}
 use Rattle.corrections.specs.declared.field.TextField.TheVariants as text_field
 use Rattle.corrections.specs.declared.position.Position.{Position}
 use Rattle.corrections.proofs.Repeated.{
@@ -82,13 +85,13 @@ use Rattle.corrections.proofs.Repeated.{
 }
 
 -- ---- outcomes that a test decides
-made_if : {A : Type 0} (f : A → Record) (x : A) (e : Refused) (P : Result Record Refused → Type 0) (b : Bool)
-    → (b ≡ true → P (Ok (f x))) → (b ≡ false → P (Err e)) → P (made f (if b then Ok x else Err e))
+made_if : {A : Type 0} (f : A → Record) (x : A) (e : RefusalKind) (P : Result Record RefusalKind → Type 0)
+    (b : Bool) → (b ≡ true → P (Ok (f x))) → (b ≡ false → P (Err e)) → P (made f (if b then Ok x else Err e))
 made_if f x e P true h k = h refl
 made_if f x e P false h k = k refl
 
-made_unless : {A : Type 0} (f : A → Record) (x : A) (e : Refused) (P : Result Record Refused → Type 0) (b : Bool)
-    → P (Ok (f x)) → P (Err e) → P (made f (if b then Err e else Ok x))
+made_unless : {A : Type 0} (f : A → Record) (x : A) (e : RefusalKind) (P : Result Record RefusalKind → Type 0)
+    (b : Bool) → P (Ok (f x)) → P (Err e) → P (made f (if b then Err e else Ok x))
 made_unless f x e P true h k = k
 made_unless f x e P false h k = h
 
@@ -97,20 +100,35 @@ made_unless f x e P false h k = h
 abbrev Same : Record → Record → Correction → Type 0
 Same r s d = corrected d s ≡ corrected d r
 
-abbrev pub Good : Record → Correction → Result Record Refused → Type 0
+-- what a refusal of a record itself says of its having the field
+abbrev own_says : RefusalKind → Option Bool
+own_says NoSuchField = Some false
+own_says BadText = Some true
+own_says NotOfKind = Some true
+own_says _ = None
+
+the_lack : (e : RefusalKind) → own_says e ≡ Some false → e ≡ NoSuchField
+the_lack NoSuchField h = refl
+the_lack _ h = absurd cc
+
+own_is : (e : RefusalKind) (has : Bool) → own_says e ≡ Some has → is_own e ≡ true
+own_is NoSuchField has h = refl
+own_is BadText has h = refl
+own_is NotOfKind has h = refl
+own_is _ has h = absurd cc
+
+abbrev pub Good : Record → Correction → Result Record RefusalKind → Type 0
 Good r c (Ok s) =
     (has_field r (field_of c) ≡ true) × (apart s (field_of c) ≡ apart r (field_of c))
     × (takes_away r c ≡ false → carried_of s ≡ carried_of r)
     × (takes_away r c ≡ false → (d : Correction) → field_of d ≡ field_of c → corrected d s ≡ corrected d r)
-Good r c (Err NoSuchField) = has_field r (field_of c) ≡ false
-Good r c (Err BadText) = has_field r (field_of c) ≡ true
-Good r c (Err NotOfKind) = has_field r (field_of c) ≡ true
+Good r c (Err e) = own_says e ≡ Some (has_field r (field_of c))
 
 -- a role by the word and the kind
 as_role : (e : model.Entry) (k : Position) (t : List ℕ) (o : Option Role) → has_mention k.number e ≡ true
     → Good (kind.Entry e) (value.Text (text_field.RoleAt k) t)
     (made (λ x. kind.Entry x) (made (λ r. mentions_with k.number (mention_as r) e) (role_for e.kind o)))
-as_role e k t None has = has
+as_role e k t None has = ap Some (sym has)
 as_role e k t (Some r) has = fits (is_role_of e.kind r)
   where
     fits : (b : Bool) → Good (kind.Entry e) (value.Text (text_field.RoleAt k) t)
@@ -124,7 +142,7 @@ as_role e k t (Some r) has = fits (is_role_of e.kind r)
           (Same (kind.Entry e) (kind.Entry (mentions_with k.number (mention_as r) e)))
           (λ u. ap (λ o. made (λ x. kind.Entry x) o) (role_later e k r u)),
     )
-    fits false = has
+    fits false = ap Some (sym has)
 
 another_role : (e : model.Entry) (k : Position) (t : List ℕ)
     → Good (kind.Entry e) (value.Text (text_field.RoleAt k) t) (corrected (value.Text (text_field.RoleAt k) t)
@@ -136,7 +154,7 @@ another_role e k t = by_place (has_mention k.number e) refl
         (role_of t))
         else Err NoSuchField))
     by_place true has = as_role e k t (role_of t) has
-    by_place false lacks = lacks
+    by_place false lacks = ap Some (sym lacks)
 
 -- ---- every kind, and every correction
 pub good : (r : Record) (c : Correction) → Good r c (corrected c r)
@@ -166,7 +184,7 @@ good (kind.Person p) (value.Text (text_field.NameAt k) t) =
       λ stays. of_text (text_field.NameAt k)
           (Same (kind.Person p) (kind.Person (record p { names = names_with k.number t p.names })))
           (λ u. ap (λ o. made (λ x. kind.Person x) o) (name_later p k t u stays)),
-    )) (λ lacks. lacks)
+    )) (λ lacks. ap Some (sym lacks))
 good (kind.Person p) (value.Text (text_field.RoleAt k) t) = refl
 good (kind.Event e) (value.Sex a) = refl
 good (kind.Event e) (value.Tag a) =
@@ -372,23 +390,35 @@ good (kind.Entry e) (value.Text (text_field.NameAt k) t) =
       λ _. of_text (text_field.NameAt k)
           (Same (kind.Entry e) (kind.Entry (mentions_with k.number (mention_named t) e)))
           (λ u. ap (λ o. made (λ x. kind.Entry x) o) (mention_later e k t u)),
-    )) (λ lacks. lacks)
+    )) (λ lacks. ap Some (sym lacks))
 good (kind.Entry e) (value.Text (text_field.RoleAt k) t) = another_role e k t
 good (kind.Family f) c = refl
 good (kind.Other o) c = refl
 
 -- ---- the laws
-other_fields : (r : Record) (c : Correction) (o : Result Record Refused) → Good r c o
+other_fields : (r : Record) (c : Correction) (o : Result Record RefusalKind) → Good r c o
     → (o ≡ Err NoSuchField) ↔ (has_field r (field_of c) ≡ false)
 other_fields r c (Ok s) h = (λ e. absurd cc, λ e. absurd cc)
-other_fields r c (Err NoSuchField) h = (λ _. h, λ _. refl)
-other_fields r c (Err BadText) h = (λ e. absurd cc, λ e. absurd cc)
-other_fields r c (Err NotOfKind) h = (λ e. absurd cc, λ e. absurd cc)
+other_fields r c (Err e) h = (
+  λ same.
+      let it : e ≡ NoSuchField = cc in
+      let says : Some false ≡ Some (has_field r (field_of c)) = ap own_says (sym it) ∙ h in
+      cc,
+  λ lacks. ap Err (the_lack e (h ∙ ap Some lacks)),
+)
 
 pub refuses_other_fields : RefusesOtherFields
 refuses_other_fields r c = other_fields r c (corrected c r) (good r c)
 
-fields_stay : (r : Record) (c : Correction) (o : Result Record Refused) → Good r c o
+own_refusal : (r : Record) (c : Correction) (o : Result Record RefusalKind) → Good r c o
+    → IfErr o (λ e. is_own e ≡ true)
+own_refusal r c (Ok s) h = tt
+own_refusal r c (Err e) h = own_is e (has_field r (field_of c)) h
+
+pub refuses_itself : RefusesItself
+refuses_itself r c = own_refusal r c (corrected c r) (good r c)
+
+fields_stay : (r : Record) (c : Correction) (o : Result Record RefusalKind) → Good r c o
     → IfOk o (λ s. apart s (field_of c) ≡ apart r (field_of c))
 fields_stay r c (Ok s) h = h.1
 fields_stay r c (Err e) h = tt
@@ -396,7 +426,7 @@ fields_stay r c (Err e) h = tt
 pub leaves_other_fields : LeavesOtherFields
 leaves_other_fields r c = fields_stay r c (corrected c r) (good r c)
 
-lines_stay : (r : Record) (c : Correction) (o : Result Record Refused) → Good r c o → takes_away r c ≡ false
+lines_stay : (r : Record) (c : Correction) (o : Result Record RefusalKind) → Good r c o → takes_away r c ≡ false
     → IfOk o (λ s. carried_of s ≡ carried_of r)
 lines_stay r c (Ok s) h stays = h.2 stays
 lines_stay r c (Err e) h stays = tt
@@ -404,7 +434,7 @@ lines_stay r c (Err e) h stays = tt
 pub leaves_carried_lines : LeavesCarriedLines
 leaves_carried_lines r c stays = lines_stay r c (corrected c r) (good r c) stays
 
-later_counts_in : (r : Record) (c : Correction) (o : Result Record Refused) → Good r c o → takes_away r c ≡ false
+later_counts_in : (r : Record) (c : Correction) (o : Result Record RefusalKind) → Good r c o → takes_away r c ≡ false
     → (d : Correction) → field_of d ≡ field_of c → IfOk o (λ s. corrected d s ≡ corrected d r)
 later_counts_in r c (Ok s) h stays d same = h.3 stays d same
 later_counts_in r c (Err e) h stays d same = tt
@@ -412,7 +442,7 @@ later_counts_in r c (Err e) h stays d same = tt
 pub later_counts : LaterCounts
 later_counts r c stays d same = later_counts_in r c (corrected c r) (good r c) stays d same
 
-given_back : (r : Record) (c : Correction) (o : Result Record Refused) → Good r c o → takes_away r c ≡ false
+given_back : (r : Record) (c : Correction) (o : Result Record RefusalKind) → Good r c o → takes_away r c ≡ false
     → (d : Correction) → field_of d ≡ field_of c → corrected d r ≡ Ok r → IfOk o (λ s. corrected d s ≡ Ok r)
 given_back r c (Ok s) h stays d same e = h.3 stays d same ∙ e
 given_back r c (Err x) h stays d same e = tt

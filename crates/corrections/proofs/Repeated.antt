@@ -29,6 +29,8 @@ use Rattle.std.specs.Prelude.{
 }
 use Rattle.std.specs.List.{flat_map, remove}
 use Rattle.std.proofs.Common.{ap, ◌∙◌}
+use Rattle.record_text.specs.declared.refusal.RefusalKind.{RefusalKind}
+use Rattle.record_text.specs.declared.refusal.RefusalKind.TheVariants.{NoSuchField, BadText}
 use Rattle.record_fields.specs.Words.{role_of}
 use Rattle.record_fields.specs.declared.entry_words.Role.{Role}
 use Rattle.record_kinds.specs.Model as model
@@ -56,8 +58,6 @@ use Rattle.corrections.specs.Corrections.{
 use Rattle.corrections.specs.Laws.{place_carried}
 use Rattle.corrections.specs.Lists.{changed_at}
 use Rattle.corrections.specs.declared.correction.Correction.TheVariants as value
-use Rattle.corrections.specs.declared.correction.Refused.{Refused}
-use Rattle.corrections.specs.declared.correction.Refused.TheVariants.{NoSuchField, BadText}
 use Rattle.corrections.specs.declared.field.TextField.TheVariants as text_field
 use Rattle.corrections.specs.declared.position.Position.{Position}
 
@@ -105,7 +105,7 @@ remove_changed f i [] = refl
 remove_changed f zero (x ∷ xs) = refl
 remove_changed f (suc i) (x ∷ xs) = ap (λ ys. x ∷ ys) (remove_changed f i xs)
 
-made_same : {A B : Type 0} (f g : A → B) → ((a : A) → f a ≡ g a) → (o : Result A Refused) → made f o ≡ made g o
+made_same : {A B : Type 0} (f g : A → B) → ((a : A) → f a ≡ g a) → (o : Result A RefusalKind) → made f o ≡ made g o
 made_same f g h (Ok a) = ap Ok (h a)
 made_same f g h (Err e) = refl
 
@@ -158,7 +158,7 @@ pub role_later : (e : model.Entry) (k : Position) (r : Role) (u : List ℕ)
     ≡ entry_with (value.Text (text_field.RoleAt k) u) e
 role_later e k r u =
     let s : model.Entry = mentions_with k.number (mention_as r) e in
-    let o : Result Role Refused = role_for e.kind (role_of u) in
+    let o : Result Role RefusalKind = role_for e.kind (role_of u) in
     ap (λ n. if nat_le k.number n then made (λ q. mentions_with k.number (mention_as q) s) o else Err NoSuchField)
     (length_changed (mention_as r) (k.number - 1) e.mentions)
     ∙ ap (λ x. if has_mention k.number e then x else Err NoSuchField)
@@ -185,7 +185,7 @@ pub call_later : (s : model.Source) (t u : List ℕ)
     ≡ corrected (value.Text text_field.CallNumber u) (kind.Source s)
 call_later s t u =
     let hs : List model.Holding = changed_at 0 (called (or_none t)) s.holdings in
-    let whole : Result model.Source Refused → Result Record Refused = λ o. made (λ x. kind.Source x) o in
+    let whole : Result model.Source RefusalKind → Result Record RefusalKind = λ o. made (λ x. kind.Source x) o in
     ap (λ n. whole (if not (is_empty u) && n == 0 then Err BadText
     else Ok (record s { holdings = changed_at 0 (called (or_none u)) hs })))
     (length_changed (called (or_none t)) 0 s.holdings)

@@ -26,6 +26,8 @@ use Rattle.std.specs.Prelude.{
 }
 use Rattle.std.specs.List.{remove}
 use Rattle.std.specs.Str.{bytes_eq}
+use Rattle.record_text.specs.declared.refusal.RefusalKind.{RefusalKind}
+use Rattle.record_text.specs.declared.refusal.RefusalKind.TheVariants.{NoSuchField, BadText, NotOfKind}
 use Rattle.record_fields.specs.Words.{role_of}
 use Rattle.record_fields.specs.declared.entry_words.EntryKind.{EntryKind}
 use Rattle.record_fields.specs.declared.entry_words.Role.{Role}
@@ -38,12 +40,10 @@ use Rattle.record_shapes.specs.Roles.{is_role_of}
 use Rattle.corrections.specs.Lists.{changed_at}
 use Rattle.corrections.specs.declared.correction.Correction.{Correction}
 use Rattle.corrections.specs.declared.correction.Correction.TheVariants as value
-use Rattle.corrections.specs.declared.correction.Refused.{Refused}
-use Rattle.corrections.specs.declared.correction.Refused.TheVariants.{NoSuchField, BadText, NotOfKind}
 use Rattle.corrections.specs.declared.field.TextField.TheVariants as text_field
 
 -- the outcome of a part as that of the whole
-abbrev pub made : {A B : Type 0} → (A → B) → Result A Refused → Result B Refused
+abbrev pub made : {A B : Type 0} → (A → B) → Result A RefusalKind → Result B RefusalKind
 made f (Ok a) = Ok (f a)
 made f (Err e) = Err e
 
@@ -62,7 +62,7 @@ abbrev pub names_with : ℕ → List ℕ → List model.Name → List model.Name
 names_with k t ns = if is_empty t && nat_lt 1 (length ns) then remove ns (k - 1) else changed_at (k - 1)
     (renamed t) ns
 
-abbrev pub person_with : Correction → model.Person → Result model.Person Refused
+abbrev pub person_with : Correction → model.Person → Result model.Person RefusalKind
 person_with (value.Sex s) p = Ok (record p { sex = s })
 person_with (value.Text (text_field.NameAt k) t) p =
     if nat_le k.number (length p.names) then Ok (record p { names = names_with k.number t p.names })
@@ -76,7 +76,7 @@ place_with None old = None
 place_with (Some n) None = Some (record { place = n; carried = [] })
 place_with (Some n) (Some p) = Some (record p { place = n })
 
-abbrev pub event_with : Correction → model.Event → Result model.Event Refused
+abbrev pub event_with : Correction → model.Event → Result model.Event RefusalKind
 event_with (value.Tag t) e = Ok (record e { tag = t })
 event_with (value.Date d) e = Ok (record e { date = d })
 event_with (value.Place n) e = Ok (record e { place = place_with n e.place })
@@ -88,11 +88,11 @@ event_with _ e = Err NoSuchField
 abbrev pub is_place_name : List ℕ → Bool
 is_place_name t = not (is_empty t) && bytes_eq (normal t) t
 
-abbrev pub place_named : Correction → model.Place → Result model.Place Refused
+abbrev pub place_named : Correction → model.Place → Result model.Place RefusalKind
 place_named (value.Text text_field.Name t) p = if is_place_name t then Ok (record p { name = t }) else Err BadText
 place_named _ p = Err NoSuchField
 
-abbrev pub repo_named : Correction → model.Repo → Result model.Repo Refused
+abbrev pub repo_named : Correction → model.Repo → Result model.Repo RefusalKind
 repo_named (value.Text text_field.Name t) r = Ok (record r { name = Some t })
 repo_named _ r = Err NoSuchField
 
@@ -110,7 +110,7 @@ abbrev pub called : Option (List ℕ) → model.Holding → model.Holding
 called t h = record h { call_number = t }
 
 -- a repository with a call number is not taken away, and a call number needs a repository
-abbrev pub source_with : Correction → model.Source → Result model.Source Refused
+abbrev pub source_with : Correction → model.Source → Result model.Source RefusalKind
 source_with (value.Text text_field.Title t) s = Ok (record s { title = Some t })
 source_with (value.Text text_field.Author t) s = Ok (record s { author = or_none t })
 source_with (value.Text text_field.Publisher t) s = Ok (record s { publisher = or_none t })
@@ -123,14 +123,14 @@ source_with (value.Repository (Some n)) s = Ok (record s { holdings = held_at n 
 source_with _ s = Err NoSuchField
 
 -- ---- citations
-abbrev pub citation_with : Correction → model.Citation → Result model.Citation Refused
+abbrev pub citation_with : Correction → model.Citation → Result model.Citation RefusalKind
 citation_with (value.Text text_field.Page t) c = Ok (record c { page = or_none t })
 citation_with (value.Quality q) c = Ok (record c { quality = q })
 citation_with _ c = Err NoSuchField
 
 -- ---- register entries
 -- the role of a word, where it is one of the kind
-abbrev pub role_for : EntryKind → Option Role → Result Role Refused
+abbrev pub role_for : EntryKind → Option Role → Result Role RefusalKind
 role_for k None = Err NotOfKind
 role_for k (Some r) = if is_role_of k r then Ok r else Err NotOfKind
 
@@ -148,7 +148,7 @@ mentions_with k f e = record e { mentions = changed_at (k - 1) f e.mentions }
 abbrev pub has_mention : ℕ → model.Entry → Bool
 has_mention k e = nat_le k (length e.mentions)
 
-abbrev pub entry_with : Correction → model.Entry → Result model.Entry Refused
+abbrev pub entry_with : Correction → model.Entry → Result model.Entry RefusalKind
 entry_with (value.Item i) e = Ok (record e { item = i })
 entry_with (value.Date d) e = Ok (record e { date = d })
 entry_with (value.Place n) e = Ok (record e { place = n })
@@ -162,7 +162,7 @@ entry_with (value.Text (text_field.RoleAt k) t) e =
 entry_with _ e = Err NoSuchField
 
 -- ---- records: families and those of no other kind have no field
-abbrev pub corrected : Correction → Record → Result Record Refused
+abbrev pub corrected : Correction → Record → Result Record RefusalKind
 corrected c (kind.Person p) = made (λ x. kind.Person x) (person_with c p)
 corrected c (kind.Event e) = made (λ x. kind.Event x) (event_with c e)
 corrected c (kind.Place p) = made (λ x. kind.Place x) (place_named c p)

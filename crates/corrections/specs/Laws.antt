@@ -15,9 +15,12 @@ use Rattle.std.specs.Prelude.{
   None,
   Ok,
   Err,
+  IfErr,
   IfOk,
 }
 use Rattle.std.specs.List.{flat_map}
+use Rattle.record_text.specs.declared.refusal.RefusalKind.{RefusalKind}
+use Rattle.record_text.specs.declared.refusal.RefusalKind.TheVariants.{NoSuchField, BadText, NotOfKind}
 use Rattle.record_fields.specs.Items.{first_item}
 use Rattle.record_kinds.specs.Model as model
 use Rattle.record_kinds.specs.declared.record.Record.{Record}
@@ -28,7 +31,6 @@ use Rattle.corrections.specs.Corrections.{corrected}
 use Rattle.corrections.specs.Fields.{field_of, has_field}
 use Rattle.corrections.specs.declared.correction.Correction.{Correction}
 use Rattle.corrections.specs.declared.correction.Correction.TheVariants as value
-use Rattle.corrections.specs.declared.correction.Refused.TheVariants.{NoSuchField}
 use Rattle.corrections.specs.declared.field.Field.{Field}
 use Rattle.corrections.specs.declared.field.Field.TheVariants as field
 use Rattle.corrections.specs.declared.field.TextField.TheVariants as text_field
@@ -37,6 +39,17 @@ use Rattle.corrections.specs.declared.field.TextField.TheVariants as text_field
 abbrev pub RefusesOtherFields : Type 0
 RefusesOtherFields = (r : Record) (c : Correction) → (corrected c r ≡ Err NoSuchField) ↔ (has_field r (field_of c)
     ≡ false)
+
+-- what a record refuses by itself: 64, 58 and 62
+abbrev pub is_own : RefusalKind → Bool
+is_own NoSuchField = true
+is_own BadText = true
+is_own NotOfKind = true
+is_own _ = false
+
+-- no other refusal comes
+abbrev pub RefusesItself : Type 0
+RefusesItself = (r : Record) (c : Correction) → IfErr (corrected c r) (λ e. is_own e ≡ true)
 
 -- ---- the other fields
 -- a record without what it has of a field; a field of a list takes the list with it

@@ -12,9 +12,8 @@ use crate::places::{place_named, repo_named};
 use crate::sources::{citation_with, source_with};
 use record_fields::{Date, Item, Quality, Sex};
 use record_kinds::Record;
-use record_text::{Tag, Text};
+use record_text::{RefusalKind, Tag, Text};
 use std::alloc::{AllocError, Global};
-use thiserror::Error;
 
 /// A field with the value that is put in place of its own.
 #[derive(Drop)]
@@ -53,27 +52,15 @@ impl Correction {
     }
 }
 
-/// Why a correction of a record is refused, by what the record says itself.
-#[derive(Clone, Copy, Debug, Drop, PartialEq, Eq, Error)]
-pub enum Refused {
-    /// The record has not the field: 64.
-    #[error("NoSuchField")]
-    NoSuchField,
-    /// The name of a place is empty or not normal, or a call number would be without a repository: 58.
-    #[error("BadText")]
-    BadText,
-    /// The word is no role, or none of the kind of entry: 62.
-    #[error("NotOfKind")]
-    NotOfKind,
-}
-
 /// The record with the value put in place of the field's. All else of it stays, carried lines too, but for those of a
-/// place, a repository or a name that is taken away. Which refusal comes if the record forbids it: `Refused`.
+/// place, a repository or a name that is taken away. Refused by what the record says itself: a field that it has not
+/// (64); a name of a place that is empty or not normal, a repository taken away from its call number, a call number
+/// without a repository (58); a word that is no role of the kind of entry (62).
 pub fn corrected(
     alloc: Global,
     record: Record,
     correction: Correction,
-) -> Result<Result<Record, Refused>, AllocError>
+) -> Result<Result<Record, RefusalKind>, AllocError>
     ensures { IfOk result (λ outcome. outcome ≡ corrections.corrected correction «record») }
 {
     match record {
@@ -105,6 +92,6 @@ pub fn corrected(
             Ok(entry) => Ok(Ok(Record::Entry(entry))),
             Err(refused) => Ok(Err(refused)),
         },
-        Record::Family(_) | Record::Other(_) => Ok(Err(Refused::NoSuchField)),
+        Record::Family(_) | Record::Other(_) => Ok(Err(RefusalKind::NoSuchField)),
     }
 }

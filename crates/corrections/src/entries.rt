@@ -6,16 +6,16 @@ ghost use Rattle.corrections.specs.Corrections as corrections;
 ghost use Rattle.corrections.specs.Lists.{changed_at};
 ghost use Rattle.corrections.specs.declared.correction.Correction.TheVariants as value;
 
-use crate::correction::{Correction, Refused};
+use crate::correction::Correction;
 use crate::field::TextField;
 use crate::position::Position;
 use record_fields::{EntryKind, Role};
 use record_kinds::{Entry, Mention};
 use record_shapes::is_role_of;
-use record_text::Text;
+use record_text::{RefusalKind, Text};
 
 /// An entry with another value of a field.
-pub(crate) fn entry_with(entry: Entry, correction: Correction) -> Result<Entry, Refused>
+pub(crate) fn entry_with(entry: Entry, correction: Correction) -> Result<Entry, RefusalKind>
     ensures { result ≡ corrections.entry_with correction entry }
 {
     let mut entry = entry;
@@ -24,13 +24,13 @@ pub(crate) fn entry_with(entry: Entry, correction: Correction) -> Result<Entry, 
         Correction::Date(date) => entry.date = date,
         Correction::Place(place) => entry.place = place,
         Correction::Text(field, text) => return entry_text(entry, field, text),
-        _ => return Err(Refused::NoSuchField),
+        _ => return Err(RefusalKind::NoSuchField),
     }
     Ok(entry)
 }
 
 /// An entry with another text of a field.
-fn entry_text(entry: Entry, field: TextField, text: Text) -> Result<Entry, Refused>
+fn entry_text(entry: Entry, field: TextField, text: Text) -> Result<Entry, RefusalKind>
     ensures { result ≡ corrections.entry_with (value.Text field text) entry }
 {
     let mut entry = entry;
@@ -39,18 +39,18 @@ fn entry_text(entry: Entry, field: TextField, text: Text) -> Result<Entry, Refus
         TextField::Text => entry.text = text,
         TextField::NameAt(at) => {
             if !has_mention(&entry, at) {
-                return Err(Refused::NoSuchField);
+                return Err(RefusalKind::NoSuchField);
             }
             set_name(&mut entry.mentions, at.index(), text);
         }
         TextField::RoleAt(at) => {
             if !has_mention(&entry, at) {
-                return Err(Refused::NoSuchField);
+                return Err(RefusalKind::NoSuchField);
             }
             let role = role_in(entry.kind, text.as_str())?;
             set_role(&mut entry.mentions, at.index(), role);
         }
-        _ => return Err(Refused::NoSuchField),
+        _ => return Err(RefusalKind::NoSuchField),
     }
     Ok(entry)
 }
@@ -63,16 +63,16 @@ fn has_mention(entry: &Entry, at: Position) -> bool
 }
 
 /// The role of a word, if it is one of that kind of entry.
-fn role_in(kind: EntryKind, word: &str) -> Result<Role, Refused>
+fn role_in(kind: EntryKind, word: &str) -> Result<Role, RefusalKind>
     ensures { result ≡ corrections.role_for kind (role_of word.now) }
 {
     let Some(role) = Role::from_word(word) else {
-        return Err(Refused::NotOfKind);
+        return Err(RefusalKind::NotOfKind);
     };
     if is_role_of(kind, role) {
         Ok(role)
     } else {
-        Err(Refused::NotOfKind)
+        Err(RefusalKind::NotOfKind)
     }
 }
 

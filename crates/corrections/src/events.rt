@@ -3,9 +3,10 @@
 ghost use Rattle.std.specs.Prelude.{◌≡◌};
 ghost use Rattle.corrections.specs.Corrections as corrections;
 
-use crate::correction::{Correction, Refused};
+use crate::correction::Correction;
 use crate::field::TextField;
 use record_kinds::{Event, EventPlace};
+use record_text::RefusalKind;
 use std::alloc::Global;
 
 /// An event with another value of a field.
@@ -13,7 +14,7 @@ pub(crate) fn event_with(
     alloc: Global,
     event: Event,
     correction: Correction,
-) -> Result<Event, Refused>
+) -> Result<Event, RefusalKind>
     ensures { result ≡ corrections.event_with correction event }
 {
     let mut event = event;
@@ -25,7 +26,7 @@ pub(crate) fn event_with(
             event.place = place_with(alloc, number, old);
         }
         Correction::Text(TextField::Value, text) => event.value = text,
-        _ => return Err(Refused::NoSuchField),
+        _ => return Err(RefusalKind::NoSuchField),
     }
     Ok(event)
 }

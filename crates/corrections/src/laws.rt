@@ -5,12 +5,18 @@ ghost use Rattle.corrections.specs.Laws.{
   LaterCounts,
   LeavesCarriedLines,
   LeavesOtherFields,
+  RefusesItself,
   RefusesOtherFields,
 };
 
 /// A correction of a field that the record has not is refused as such, and no other correction is.
 pub fn other_fields_are_refused()
     ensures { RefusesOtherFields }
+{}
+
+/// No correction is refused with another number than 64, 58 and 62.
+pub fn no_other_refusal_comes()
+    ensures { RefusesItself }
 {}
 
 /// A correction changes no other field.

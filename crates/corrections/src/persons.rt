@@ -6,14 +6,14 @@ ghost use Rattle.corrections.specs.Lists.{changed_at};
 ghost use Rattle.corrections.specs.declared.correction.Correction.TheVariants as value;
 ghost use Rattle.corrections.specs.declared.field.TextField.TheVariants as text_field;
 
-use crate::correction::{Correction, Refused};
+use crate::correction::Correction;
 use crate::field::TextField;
 use crate::position::Position;
 use record_kinds::{Name, Person};
-use record_text::Text;
+use record_text::{RefusalKind, Text};
 
 /// A person with another value of a field.
-pub(crate) fn person_with(person: Person, correction: Correction) -> Result<Person, Refused>
+pub(crate) fn person_with(person: Person, correction: Correction) -> Result<Person, RefusalKind>
     ensures { result ≡ corrections.person_with correction person }
 {
     match correction {
@@ -23,16 +23,16 @@ pub(crate) fn person_with(person: Person, correction: Correction) -> Result<Pers
             Ok(person)
         }
         Correction::Text(TextField::NameAt(at), text) => with_name(person, at, text),
-        _ => Err(Refused::NoSuchField),
+        _ => Err(RefusalKind::NoSuchField),
     }
 }
 
 /// A person with another name at a place in the list.
-fn with_name(person: Person, at: Position, text: Text) -> Result<Person, Refused>
+fn with_name(person: Person, at: Position, text: Text) -> Result<Person, RefusalKind>
     ensures { result ≡ corrections.person_with (value.Text (text_field.NameAt at) text) person }
 {
     if at.number as usize > person.names.len() {
-        return Err(Refused::NoSuchField);
+        return Err(RefusalKind::NoSuchField);
     }
     let mut person = person;
     set_name(&mut person.names, at, text);

@@ -3,10 +3,11 @@
 ghost use Rattle.std.specs.Prelude.{◌≡◌, IfOk};
 ghost use Rattle.corrections.specs.Corrections as corrections;
 
-use crate::correction::{Correction, Refused};
+use crate::correction::Correction;
 use crate::field::TextField;
 use field_rows::made_normal;
 use record_kinds::{Place, Repo};
+use record_text::RefusalKind;
 use std::alloc::{AllocError, Global};
 
 /// A place with another name.
@@ -14,19 +15,19 @@ pub(crate) fn place_named(
     alloc: Global,
     place: Place,
     correction: Correction,
-) -> Result<Result<Place, Refused>, AllocError>
+) -> Result<Result<Place, RefusalKind>, AllocError>
     ensures { IfOk result (λ outcome. outcome ≡ corrections.place_named correction place) }
 {
     match correction {
         Correction::Text(TextField::Name, text) => {
             if !is_place_name(alloc, text.as_str())? {
-                return Ok(Err(Refused::BadText));
+                return Ok(Err(RefusalKind::BadText));
             }
             let mut place = place;
             place.name = text;
             Ok(Ok(place))
         }
-        _ => Ok(Err(Refused::NoSuchField)),
+        _ => Ok(Err(RefusalKind::NoSuchField)),
     }
 }
 
@@ -42,7 +43,7 @@ fn is_place_name(alloc: Global, name: &str) -> Result<bool, AllocError>
 }
 
 /// A repository with another name.
-pub(crate) fn repo_named(repo: Repo, correction: Correction) -> Result<Repo, Refused>
+pub(crate) fn repo_named(repo: Repo, correction: Correction) -> Result<Repo, RefusalKind>
     ensures { result ≡ corrections.repo_named correction repo }
 {
     match correction {
@@ -51,6 +52,6 @@ pub(crate) fn repo_named(repo: Repo, correction: Correction) -> Result<Repo, Ref
             repo.name = Some(text);
             Ok(repo)
         }
-        _ => Err(Refused::NoSuchField),
+        _ => Err(RefusalKind::NoSuchField),
     }
 }

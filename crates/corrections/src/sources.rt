@@ -5,10 +5,10 @@ ghost use Rattle.corrections.specs.Corrections as corrections;
 ghost use Rattle.corrections.specs.Lists.{changed_at};
 ghost use Rattle.corrections.specs.declared.correction.Correction.TheVariants as value;
 
-use crate::correction::{Correction, Refused};
+use crate::correction::Correction;
 use crate::field::TextField;
 use record_kinds::{Citation, Holding, Source};
-use record_text::Text;
+use record_text::{RefusalKind, Text};
 use std::alloc::{AllocError, Global};
 
 /// A source with another value of a field.
@@ -16,7 +16,7 @@ pub(crate) fn source_with(
     alloc: Global,
     source: Source,
     correction: Correction,
-) -> Result<Result<Source, Refused>, AllocError>
+) -> Result<Result<Source, RefusalKind>, AllocError>
     ensures { IfOk result (λ outcome. outcome ≡ corrections.source_with correction source) }
 {
     match correction {
@@ -27,7 +27,7 @@ pub(crate) fn source_with(
         }
         Correction::Repository(None) => Ok(without_repo(source)),
         Correction::Text(field, text) => Ok(source_text(source, field, text)),
-        _ => Ok(Err(Refused::NoSuchField)),
+        _ => Ok(Err(RefusalKind::NoSuchField)),
     }
 }
 
@@ -48,11 +48,11 @@ fn set_repo(alloc: Global, holdings: &mut Vec<Holding>, repo: u32) -> Result<(),
 }
 
 /// A source without its first repository, which has no call number.
-fn without_repo(source: Source) -> Result<Source, Refused>
+fn without_repo(source: Source) -> Result<Source, RefusalKind>
     ensures { result ≡ corrections.source_with (value.Repository None) source }
 {
     if first_is_called(&source.holdings) {
-        return Err(Refused::BadText);
+        return Err(RefusalKind::BadText);
     }
     let mut source = source;
     remove_first(&mut source.holdings);
@@ -78,7 +78,7 @@ fn remove_first(holdings: &mut Vec<Holding>)
 }
 
 /// A source with another text of a field.
-fn source_text(source: Source, field: TextField, text: Text) -> Result<Source, Refused>
+fn source_text(source: Source, field: TextField, text: Text) -> Result<Source, RefusalKind>
     ensures { result ≡ corrections.source_with (value.Text field text) source }
 {
     let mut source = source;
@@ -88,11 +88,11 @@ fn source_text(source: Source, field: TextField, text: Text) -> Result<Source, R
         TextField::Publisher => source.publisher = or_none(text),
         TextField::CallNumber => {
             if !text.as_str().is_empty() && source.holdings.is_empty() {
-                return Err(Refused::BadText);
+                return Err(RefusalKind::BadText);
             }
             call_first(&mut source.holdings, or_none(text));
         }
-        _ => return Err(Refused::NoSuchField),
+        _ => return Err(RefusalKind::NoSuchField),
     }
     Ok(source)
 }
@@ -118,14 +118,17 @@ fn or_none(text: Text) -> Option<Text>
 }
 
 /// A citation with another value of a field.
-pub(crate) fn citation_with(citation: Citation, correction: Correction) -> Result<Citation, Refused>
+pub(crate) fn citation_with(
+    citation: Citation,
+    correction: Correction,
+) -> Result<Citation, RefusalKind>
     ensures { result ≡ corrections.citation_with correction citation }
 {
     let mut citation = citation;
     match correction {
         Correction::Text(TextField::Page, text) => citation.page = or_none(text),
         Correction::Quality(quality) => citation.quality = quality,
-        _ => return Err(Refused::NoSuchField),
+        _ => return Err(RefusalKind::NoSuchField),
     }
     Ok(citation)
 }

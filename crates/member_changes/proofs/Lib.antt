@@ -2,4 +2,5 @@ pub mod EventFits
 pub mod FamilyFits
 pub mod Lists
 pub mod Members
+pub mod Refusing
 pub mod Stepping

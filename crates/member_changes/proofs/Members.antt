@@ -31,6 +31,7 @@ use Rattle.std.proofs.lemmas.Bool.Decides.{nat_tests}
 use Rattle.std.proofs.lemmas.List.Edits.{length-remove}
 use Rattle.std.specs.FinMap.{get}
 use Rattle.record_text.specs.declared.refusal.RefusalKind.{RefusalKind}
+use Rattle.record_text.specs.declared.refusal.RefusalKind.TheVariants.{AlreadyInFamily, NoSuchField, NotMember}
 use Rattle.commands.specs.Rows.{and_then}
 use Rattle.archive_state.specs.Content.{Content}
 use Rattle.member_changes.specs.Steps.{family_for, person_passes}
@@ -50,19 +51,17 @@ use Rattle.memberships.specs.Members.{
   without_participant,
   without_partner,
 }
-use Rattle.memberships.specs.declared.refused.Refused.{Refused}
-use Rattle.memberships.specs.declared.refused.Refused.TheVariants.{AlreadyInFamily, NoSuchField, NotMember}
 use Rattle.command_checks.specs.Checks.{event_in, family_at, family_in}
 use Rattle.command_checks.proofs.Found.{event_found, family_found}
 
 -- ---- what a change that is made says
 -- an outcome under a test
-pub by_test : {A : Type 0} (a : A) (e : Refused) (P : A → Type 0) (b : Bool) → (b ≡ true → P a)
+pub by_test : {A : Type 0} (a : A) (e : RefusalKind) (P : A → Type 0) (b : Bool) → (b ≡ true → P a)
     → IfOk (if b then Ok a else Err e) P
 by_test a e P true h = h refl
 by_test a e P false h = tt
 
-pub unless_test : {A : Type 0} (a : A) (e : Refused) (P : A → Type 0) (b : Bool) → (b ≡ false → P a)
+pub unless_test : {A : Type 0} (a : A) (e : RefusalKind) (P : A → Type 0) (b : Bool) → (b ≡ false → P a)
     → IfOk (if b then Err e else Ok a) P
 unless_test a e P true h = tt
 unless_test a e P false h = h refl
@@ -162,27 +161,27 @@ found_first : (c : Content) (n person : ℕ) (f : model.Family) → family_for c
 found_first c n person f e = (family_looked (family_at c n) (person_passes c person) f e).0
 
 pub partner_other : (c : Content) (n : ℕ) (as_what : Partnership) (person : ℕ) (f : model.Family)
-    (r : Result model.Family Refused) → r ≡ with_partner as_what person f → family_for c n person ≡ Ok f
+    (r : Result model.Family RefusalKind) → r ≡ with_partner as_what person f → family_for c n person ≡ Ok f
     → IfOk r (IsOther c n)
 partner_other c n as_what person f r same e =
     subst (λ x. IfOk x (IsOther c n)) (sym same)
     (partner_differs (get c.records n) as_what person f (found_first c n person f e))
 
-pub unpartner_other : (c : Content) (n person : ℕ) (f : model.Family) (r : Result model.Family Refused)
+pub unpartner_other : (c : Content) (n person : ℕ) (f : model.Family) (r : Result model.Family RefusalKind)
     → r ≡ without_partner person f → family_for c n person ≡ Ok f → IfOk r (IsOther c n)
 unpartner_other c n person f r same e =
     subst (λ x. IfOk x (IsOther c n)) (sym same)
     (other_partners_differ (get c.records n) person f (found_first c n person f e))
 
-pub unchild_other : (c : Content) (n person : ℕ) (f : model.Family) (r : Result model.Family Refused)
+pub unchild_other : (c : Content) (n person : ℕ) (f : model.Family) (r : Result model.Family RefusalKind)
     → r ≡ without_child person f → family_for c n person ≡ Ok f → IfOk r (IsOther c n)
 unchild_other c n person f r same e =
     subst (λ x. IfOk x (IsOther c n)) (sym same)
     (other_children_differ (get c.records n) person f (found_first c n person f e))
 
-pub event_other : (c : Content) (n place : ℕ) (x y : model.Event) (r : Result model.Event Refused)
-    → r ≡ without_participant place x → r ≡ Ok y → event_in (get c.records n) ≡ Ok x
-    → get c.records n ≢ Some (kind.Event y)
-event_other c n place x y r same is e =
-    subst (λ o. IfOk o (λ z. get c.records n ≢ Some (kind.Event z))) (sym same ∙ is)
+pub event_other : (c : Content) (n place : ℕ) (x : model.Event) (r : Result model.Event RefusalKind)
+    → r ≡ without_participant place x → event_in (get c.records n) ≡ Ok x
+    → IfOk r (λ y. get c.records n ≢ Some (kind.Event y))
+event_other c n place x r same e =
+    subst (λ o. IfOk o (λ z. get c.records n ≢ Some (kind.Event z))) (sym same)
     (participants_differ (get c.records n) place x e)

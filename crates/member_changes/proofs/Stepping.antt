@@ -4,6 +4,7 @@ use Rattle.std.specs.Prelude.{Option, Some, Result, Ok, Err, IfOk}
 use Rattle.std.specs.FinMap.{get}
 use Rattle.std.specs.List.{remove}
 use Rattle.record_text.specs.declared.refusal.RefusalKind.{RefusalKind}
+use Rattle.record_text.specs.declared.refusal.RefusalKind.TheVariants.{AlreadyInFamily, NoSuchField, NotMember}
 use Rattle.receipts.specs.declared.answer.Answer.{Answer}
 use Rattle.record_fields.specs.declared.words.Partnership.{Partnership}
 use Rattle.record_kinds.specs.Model as model
@@ -27,11 +28,8 @@ use Rattle.memberships.specs.Members.{
   without_participant,
   without_partner,
 }
-use Rattle.memberships.specs.declared.refused.Refused.{Refused as MembersRefused}
-use Rattle.memberships.specs.declared.refused.Refused.TheVariants.{AlreadyInFamily, NoSuchField, NotMember}
 use Rattle.record_changes.specs.Laws.{ChangesOnly}
-use Rattle.record_changes.specs.Refusals.{Step, looked}
-use Rattle.record_changes.specs.Steps.{replaced}
+use Rattle.record_changes.specs.Steps.{Step, replaced}
 use Rattle.record_changes.proofs.Following.{leaves_all_else as else_left, replaced_sound}
 use Rattle.member_changes.specs.Laws.{KeepsSound, LeavesAllElse}
 use Rattle.member_changes.specs.Steps.{event_put, family_for, family_put, person_passes}
@@ -45,17 +43,17 @@ Holds P step = IfOk step P
 
 -- after a look
 then_holds : {A : Type 0} (P : Content × Answer → Type 0) (r : Result A RefusalKind) (f : A → Step)
-    → ((a : A) → r ≡ Ok a → Holds P (f a)) → Holds P (looked r f)
+    → ((a : A) → r ≡ Ok a → Holds P (f a)) → Holds P (and_then r f)
 then_holds P (Ok a) f h = h a refl
 then_holds P (Err e) f h = tt
 
 -- what is put in place of the family, of the event
-family_holds : (P : Content × Answer → Type 0) (c : Content) (n : ℕ) (r : Result model.Family MembersRefused)
+family_holds : (P : Content × Answer → Type 0) (c : Content) (n : ℕ) (r : Result model.Family RefusalKind)
     → IfOk r (λ g. P (replaced c n (kind.Family g))) → Holds P (family_put c n r)
 family_holds P c n (Ok g) h = h
 family_holds P c n (Err e) h = tt
 
-event_holds : (P : Content × Answer → Type 0) (c : Content) (n : ℕ) (r : Result model.Event MembersRefused)
+event_holds : (P : Content × Answer → Type 0) (c : Content) (n : ℕ) (r : Result model.Event RefusalKind)
     → IfOk r (λ g. P (replaced c n (kind.Event g))) → Holds P (event_put c n r)
 event_holds P c n (Ok g) h = h
 event_holds P c n (Err e) h = tt
@@ -115,8 +113,8 @@ if_any : {A E : Type 0} (P : A → Type 0) (r : Result A E) → ((a : A) → P a
 if_any P (Ok a) h = h a
 if_any P (Err e) h = tt
 
-family_stays : (c : Content) (n : ℕ) (person : ℕ) (make : model.Family → Result model.Family MembersRefused)
-    → Holds (ChangesOnly c n) (looked (family_for c n person) (λ f. family_put c n (make f)))
+family_stays : (c : Content) (n : ℕ) (person : ℕ) (make : model.Family → Result model.Family RefusalKind)
+    → Holds (ChangesOnly c n) (and_then (family_for c n person) (λ f. family_put c n (make f)))
 family_stays c n person make = then_holds (ChangesOnly c n) (family_for c n person) (λ f. family_put c n (make f))
     (λ f e.
     let both = both_found c n person f e in

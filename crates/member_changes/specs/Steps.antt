@@ -1,8 +1,7 @@
 -- What each command on members and participants makes of an archive, or the refusal that it gets: each number is looked
 -- at in the order of its field, and then what is the command's own. Rules of our own.
-use Rattle.std.specs.Prelude.{ℕ, Result, Ok, Err}
+use Rattle.std.specs.Prelude.{ℕ, Result, Ok}
 use Rattle.record_text.specs.declared.refusal.RefusalKind.{RefusalKind}
-use Rattle.record_text.specs.declared.refusal.RefusalKind.TheVariants as refusal
 use Rattle.record_fields.specs.declared.words.Partnership.{Partnership}
 use Rattle.record_kinds.specs.Model as model
 use Rattle.record_kinds.specs.declared.record.Record.TheVariants as kind
@@ -10,18 +9,7 @@ use Rattle.archive_state.specs.Content.{Content}
 use Rattle.commands.specs.Rows.{and_then}
 use Rattle.command_checks.specs.Checks.{event_at, family_at, passed, person_at}
 use Rattle.memberships.specs.Members.{with_partner, without_child, without_participant, without_partner}
-use Rattle.memberships.specs.declared.refused.Refused.TheVariants as members
-use Rattle.memberships.specs.declared.refused.Refused.{Refused as MembersRefused}
-use Rattle.record_changes.specs.Refusals.{Step, looked}
-use Rattle.record_changes.specs.Steps.{replaced}
-use Rattle.record_changes.specs.declared.refused.Refused.{Refused}
-use Rattle.record_changes.specs.declared.refused.Refused.TheVariants.{Kind, NoSuchField, NotMember}
-
--- the refusal of a change of members, among those of an archive
-abbrev pub refused_as : MembersRefused → Refused
-refused_as members.AlreadyInFamily = Kind refusal.AlreadyInFamily
-refused_as members.NoSuchField = NoSuchField
-refused_as members.NotMember = NotMember
+use Rattle.record_changes.specs.Steps.{Step, replaced}
 
 -- ---- families
 abbrev pub person_passes : Content → ℕ → Result (Unit {0}) RefusalKind
@@ -34,24 +22,22 @@ family_for c n person =
     and_then (person_passes c person) (λ _.
     Ok f))
 
-abbrev pub family_put : Content → ℕ → Result model.Family MembersRefused → Step
-family_put c n (Ok f) = Ok (replaced c n (kind.Family f))
-family_put c n (Err e) = Err (refused_as e)
+abbrev pub family_put : Content → ℕ → Result model.Family RefusalKind → Step
+family_put c n changed = and_then changed (λ f. Ok (replaced c n (kind.Family f)))
 
 abbrev pub partner : Content → ℕ → Partnership → ℕ → Step
-partner c n as_what person = looked (family_for c n person) (λ f. family_put c n (with_partner as_what person f))
+partner c n as_what person = and_then (family_for c n person) (λ f. family_put c n (with_partner as_what person f))
 
 abbrev pub unpartner : Content → ℕ → ℕ → Step
-unpartner c n person = looked (family_for c n person) (λ f. family_put c n (without_partner person f))
+unpartner c n person = and_then (family_for c n person) (λ f. family_put c n (without_partner person f))
 
 abbrev pub unchild : Content → ℕ → ℕ → Step
-unchild c n person = looked (family_for c n person) (λ f. family_put c n (without_child person f))
+unchild c n person = and_then (family_for c n person) (λ f. family_put c n (without_child person f))
 
 -- ---- events
-abbrev pub event_put : Content → ℕ → Result model.Event MembersRefused → Step
-event_put c n (Ok e) = Ok (replaced c n (kind.Event e))
-event_put c n (Err e) = Err (refused_as e)
+abbrev pub event_put : Content → ℕ → Result model.Event RefusalKind → Step
+event_put c n changed = and_then changed (λ e. Ok (replaced c n (kind.Event e)))
 
 -- the participant of that place in the list, from 1
 abbrev pub unparticipant : Content → ℕ → ℕ → Step
-unparticipant c n place = looked (event_at c n) (λ e. event_put c n (without_participant place e))
+unparticipant c n place = and_then (event_at c n) (λ e. event_put c n (without_participant place e))

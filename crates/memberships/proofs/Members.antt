@@ -22,6 +22,8 @@ use Rattle.std.specs.Prelude.{
 use Rattle.std.specs.List.{filter, list_any}
 use Rattle.std.proofs.Common.{ap, arith, ◌∙◌}
 use Rattle.std.proofs.lemmas.Bool.Decides.{nat_tests}
+use Rattle.record_text.specs.declared.refusal.RefusalKind.{RefusalKind}
+use Rattle.record_text.specs.declared.refusal.RefusalKind.TheVariants.{AlreadyInFamily, NotMember}
 use Rattle.record_fields.specs.declared.words.Partnership.{Partnership}
 use Rattle.record_kinds.specs.Model as model
 use Rattle.memberships.specs.Laws.{PutsBack, TakesOut}
@@ -33,8 +35,6 @@ use Rattle.memberships.specs.Members.{
   plain_partner,
   without_partner,
 }
-use Rattle.memberships.specs.declared.refused.Refused.{Refused}
-use Rattle.memberships.specs.declared.refused.Refused.TheVariants.{AlreadyInFamily, NotMember}
 
 -- none of those that a test leaves out is left
 none_left : {A : Type 0} (test : A → Bool) (xs : List A) → list_any test (filter (λ x. not (test x)) xs) ≡ false
@@ -67,7 +67,8 @@ found_last test (x ∷ xs) z e =
       | false ↦ found_last test xs z e
     ]
 
-if_ok : {A : Type 0} (a : A) (e : Refused) (P : A → Type 0) → P a → (b : Bool) → IfOk (if b then Ok a else Err e) P
+if_ok : {A : Type 0} (a : A) (e : RefusalKind) (P : A → Type 0) → P a → (b : Bool)
+    → IfOk (if b then Ok a else Err e) P
 if_ok a e P h true = h
 if_ok a e P h false = tt
 

@@ -20,10 +20,10 @@ use Rattle.std.specs.Prelude.{
   if◌then◌else◌,
 }
 use Rattle.std.specs.List.{filter, list_any, remove}
+use Rattle.record_text.specs.declared.refusal.RefusalKind.{RefusalKind}
+use Rattle.record_text.specs.declared.refusal.RefusalKind.TheVariants.{AlreadyInFamily, NoSuchField, NotMember}
 use Rattle.record_fields.specs.declared.words.Partnership.{Partnership}
 use Rattle.record_kinds.specs.Model as model
-use Rattle.memberships.specs.declared.refused.Refused.{Refused}
-use Rattle.memberships.specs.declared.refused.Refused.TheVariants.{AlreadyInFamily, NoSuchField, NotMember}
 
 abbrev pub is_partner : ℕ → model.Family → Bool
 is_partner n f = list_any (λ (p : model.Partner). p.person == n) f.partners
@@ -36,7 +36,7 @@ abbrev pub plain_partner : Partnership → ℕ → model.Partner
 plain_partner as_what n = record { partnership = as_what; person = n; carried = []; carried_by_person = [] }
 
 -- last among the partners
-abbrev pub with_partner : Partnership → ℕ → model.Family → Result model.Family Refused
+abbrev pub with_partner : Partnership → ℕ → model.Family → Result model.Family RefusalKind
 with_partner as_what n f =
     if is_partner n f || is_child n f then Err AlreadyInFamily
     else Ok (record f { partners = f.partners ++ plain_partner as_what n ∷ [] })
@@ -45,7 +45,7 @@ abbrev pub other_partners : ℕ → List model.Partner → List model.Partner
 other_partners n ps = filter (λ (p : model.Partner). not (p.person == n)) ps
 
 -- what the membership carries is with the partner, of both sides
-abbrev pub without_partner : ℕ → model.Family → Result model.Family Refused
+abbrev pub without_partner : ℕ → model.Family → Result model.Family RefusalKind
 without_partner n f = if is_partner n f then Ok (record f { partners = other_partners n f.partners })
     else Err NotMember
 
@@ -53,7 +53,7 @@ without_partner n f = if is_partner n f then Ok (record f { partners = other_par
 abbrev pub other_children : ℕ → List model.Child → List model.Child
 other_children n cs = filter (λ (c : model.Child). not (c.person == n)) cs
 
-abbrev pub without_child : ℕ → model.Family → Result model.Family Refused
+abbrev pub without_child : ℕ → model.Family → Result model.Family RefusalKind
 without_child n f = if is_child n f then Ok (record f { children = other_children n f.children }) else Err NotMember
 
 -- ---- participants
@@ -61,6 +61,6 @@ without_child n f = if is_child n f then Ok (record f { children = other_childre
 abbrev pub has_participant : ℕ → model.Event → Bool
 has_participant k e = nat_le 1 k && nat_le k (length e.participants)
 
-abbrev pub without_participant : ℕ → model.Event → Result model.Event Refused
+abbrev pub without_participant : ℕ → model.Event → Result model.Event RefusalKind
 without_participant k e =
     if has_participant k e then Ok (record e { participants = remove e.participants (k - 1) }) else Err NoSuchField

@@ -3,22 +3,22 @@
 ghost use Rattle.std.specs.Prelude.{◌≡◌, IfOk};
 ghost use Rattle.memberships.specs.Members as members;
 
-use crate::refused::Refused;
 use record_fields::Partnership;
 use record_kinds::{Child, Family, Partner};
+use record_text::RefusalKind;
 use std::alloc::{AllocError, Global};
 
-/// The family with the person last among the partners. Refused if the person belongs to it.
+/// The family with the person last among the partners. Refused if the person belongs to it (59).
 pub fn with_partner(
     alloc: Global,
     family: Family,
     partnership: Partnership,
     person: u32,
-) -> Result<Result<Family, Refused>, AllocError>
+) -> Result<Result<Family, RefusalKind>, AllocError>
     ensures { IfOk result (λ outcome. outcome ≡ members.with_partner partnership person family) }
 {
     if is_partner(&family, person) || is_child(&family, person) {
-        return Ok(Err(Refused::AlreadyInFamily));
+        return Ok(Err(RefusalKind::AlreadyInFamily));
     }
     let mut family = family;
     family.partners.push(Partner {
@@ -30,24 +30,24 @@ pub fn with_partner(
     Ok(Ok(family))
 }
 
-/// The family without that partner, and without what the membership carries on both sides.
-pub fn without_partner(family: Family, person: u32) -> Result<Family, Refused>
+/// The family without that partner, and without what the membership carries on both sides (65: there is none).
+pub fn without_partner(family: Family, person: u32) -> Result<Family, RefusalKind>
     ensures { result ≡ members.without_partner person family }
 {
     if !is_partner(&family, person) {
-        return Err(Refused::NotMember);
+        return Err(RefusalKind::NotMember);
     }
     let mut family = family;
     remove_partner(&mut family.partners, person);
     Ok(family)
 }
 
-/// The family without that child, and without what the membership carries on both sides.
-pub fn without_child(family: Family, person: u32) -> Result<Family, Refused>
+/// The family without that child, and without what the membership carries on both sides (65: there is none).
+pub fn without_child(family: Family, person: u32) -> Result<Family, RefusalKind>
     ensures { result ≡ members.without_child person family }
 {
     if !is_child(&family, person) {
-        return Err(Refused::NotMember);
+        return Err(RefusalKind::NotMember);
     }
     let mut family = family;
     remove_child(&mut family.children, person);

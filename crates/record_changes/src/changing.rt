@@ -4,11 +4,10 @@ ghost use Rattle.std.specs.Prelude.{◌≡◌, ◌≢◌, ◌∷◌, [], IfErr, 
 ghost use Rattle.std.specs.FinMap as map;
 ghost use Rattle.archive_state.specs.Looks.{CountsFailures};
 ghost use Rattle.archive_state.specs.Views.{On};
+ghost use Rattle.command_checks.specs.Applied.{Plans};
 ghost use Rattle.command_checks.specs.Exact.{IsExact};
-ghost use Rattle.record_changes.specs.Refusals.{CountsRefusals, Plans};
 ghost use Rattle.record_changes.specs.Steps as steps;
 
-use crate::refused::Refused;
 use archive_state::{Changes, Numbered, View};
 use receipts::Answer;
 use record_kinds::Record;
@@ -25,27 +24,27 @@ pub fn replaces<V: View>(
     view: &mut V,
     number: u32,
     value: Record,
-) -> Result<Changes, Refused>
+) -> Result<Changes, RefusalKind>
     ensures decides { On V.View view.old view.new (λ c. Plans c result (Ok (steps.replaced c number value))) }
     ensures exact { On V.View view.old view.new
         (λ c. IfOk result (λ changes. map.get c.records number ≢ Some value → IsExact c changes)) }
-    ensures counts { CountsRefusals (V.failed view.old) (V.failed view.new) result }
+    ensures counts { CountsFailures (V.failed view.old) (V.failed view.new) result }
 {
     match view.next(alloc) {
         Ok(next) => Ok(put(alloc, number, value, next)?),
         Err(e) => {
             drop(value);
-            Err(Refused::Kind(e))
+            Err(e)
         }
     }
 }
 
 /// Nothing, where what is asked for is there already.
 #[tactic(auto, using(crate::proofs::Exactness::none_is_exact))]
-pub fn unchanged<V: View>(alloc: Global, view: &mut V) -> Result<Changes, Refused>
+pub fn unchanged<V: View>(alloc: Global, view: &mut V) -> Result<Changes, RefusalKind>
     ensures decides { On V.View view.old view.new (λ c. Plans c result (Ok (steps.as_before c))) }
     ensures exact { On V.View view.old view.new (λ c. IfOk result (IsExact c)) }
-    ensures counts { CountsRefusals (V.failed view.old) (V.failed view.new) result }
+    ensures counts { CountsFailures (V.failed view.old) (V.failed view.new) result }
 {
     let next = view.next(alloc)?;
     Ok(Changes {

@@ -1,4 +1,4 @@
-use Rattle.std.specs.Prelude.{◌≢◌, Some}
+use Rattle.std.specs.Prelude.{◌≢◌, IfOk, Some}
 use Rattle.std.specs.FinMap.{get}
 use Rattle.record_kinds.specs.declared.record.Record.TheVariants as kind
 use Rattle.archive_state.specs.Content.{Content}
@@ -6,9 +6,9 @@ use Rattle.command_checks.specs.Exact.{IsExact}
 use Rattle.member_changes.proofs.Members.{event_other, used}
 use Rattle.member_changes.proofs.participants.unparticipant.Goals as goal
 
-pub returns-in-Ok-clause-exact : goal.returns-in-Ok-clause-exact
-returns-in-Ok-clause-exact g c honest =
-    let made = c.replaces.ensures.exact honest in
+pub returns-clause-exact : goal.returns-clause-exact
+returns-clause-exact g c honest =
+    let made = c.put_event.ensures.exact honest in
     let event = c.in_ok-event.ensures.decides made.0 in (
       event.0,
       λ held shown.
@@ -16,9 +16,9 @@ returns-in-Ok-clause-exact g c honest =
           let found = event.1 held shown in
           let done = made.1 held found.0 in (
             done.0,
-            used (get before.records c.args.number ≢ Some (kind.Event c.in-Ok.event)) (IsExact before)
-                c.replaces.result done.1
-                (event_other before c.args.number c.args.place c.in_ok-event.event c.in-Ok.event
-                c.without_participant.result c.without_participant.ensures c.in-Ok.is found.1),
+            used (IfOk c.without_participant.result (λ y. get before.records c.args.number ≢ Some (kind.Event y)))
+                (IsExact before) c.put_event.result done.1
+                (event_other before c.args.number c.args.place c.in_ok-event.event
+                c.without_participant.result c.without_participant.ensures found.1),
           ),
     )
