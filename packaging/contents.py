@@ -27,7 +27,7 @@ MAINTAINER = "Jorwethan maintainers <maintainers@users.noreply.jorwethan.example
 FOR_USERS = (
     "README.md", "CHANGELOG.md", "docs/BENCH.md", "docs/FORMATS.md", "docs/INTERCHANGE.md", "docs/KEEPING.md",
     "docs/LIVING.md", "docs/PROVED.md", "docs/READING-ROOM.md", "docs/REFUSALS.md", "docs/SHEETS.md",
-    "docs/VERSIONS.md", "docs/WALK.md",
+    "docs/VERSIONS.md", "docs/WALK.md", "docs/room-family.png", "docs/room-person.png",
 )
 
 LIBRARIES = """\

@@ -16,6 +16,7 @@ from __future__ import annotations
 import argparse
 import base64
 import collections
+import contextlib
 import html.parser
 import http.client
 import json
@@ -27,6 +28,7 @@ import tempfile
 
 sys.dont_write_bytecode = True
 
+from archives import lines  # noqa: E402
 from harness import Case, Tools, demand  # noqa: E402
 from rooms import Room  # noqa: E402
 from run import command, executable, outcome_of  # noqa: E402
@@ -237,8 +239,8 @@ class Chromium:
         while not any(it.get("method") == method for it in self.events):
             self.events.append(self.message())
 
-    def open(self, address: str, width: int, colours: str):
-        self.ask("Emulation.setDeviceMetricsOverride", width=width, height=800, deviceScaleFactor=1,
+    def open(self, address: str, width: int, colours: str, height: int = 800):
+        self.ask("Emulation.setDeviceMetricsOverride", width=width, height=height, deviceScaleFactor=1,
                  mobile=width < 500)
         self.ask("Emulation.setEmulatedMedia", features=[{"name": "prefers-color-scheme", "value": colours}])
         self.events.clear()
@@ -286,17 +288,26 @@ def usable(browser, room, pages, width, colours):
         demand(browser.tabs(some) >= some, f"{where}: the Tab key does not reach each of {some} links")
 
 
+@contextlib.contextmanager
+def opened(at):
+    """A room of the archive that is open as long as it is needed."""
+    room = Room(at, 1_000_000, DAY, ("--html",)).__enter__()
+    try:
+        yield room
+    finally:
+        room.process.kill()
+        room.process.communicate()
+
+
 def pictures(browser, at, folder):
     """Two pictures of a small archive: a person, and a pedigree in a narrow window in the dark."""
-    at.made().apply(LEES)
-    with Room(at, 1_000, DAY, ("--html",)) as room:
-        for name, target, width, colours in (("room-person", "/person/2", 1_280, "light"),
-                                             ("room-family", "/family/4", 360, "dark")):
-            browser.open(f"http://127.0.0.1:{room.port}{target}", width, colours)
+    at.made().apply(lines(LEES))
+    with opened(at) as room:
+        for name, target, width, height, colours in (("room-person", "/person/2", 800, 560, "light"),
+                                                     ("room-family", "/family/4", 360, 280, "dark")):
+            browser.open(f"http://127.0.0.1:{room.port}{target}", width, colours, height)
             with open(os.path.join(folder, f"{name}.png"), "wb") as file:
                 file.write(browser.picture())
-        room.process.kill()
-        room.process.wait()
 
 
 def cases(room, drawn, browser):
@@ -326,8 +337,7 @@ def main():
     with Shown(tools) as at:
         got = at.made().import_(drawn.file, limit=900)
         demand(got.status == 0, f"the file is refused: {got.err[:200]!r}")
-        room = Room(at, 1_000_000, DAY, ("--html",)).__enter__()
-        try:
+        with opened(at) as room:
             for case in cases(room, drawn, browser):
                 if given.only not in case.name:
                     continue
@@ -335,9 +345,6 @@ def main():
                 told = f"FAILED {case.name}\n       {why}" if why else f"passed {case.name} ({seconds:.1f} s)"
                 print(told, flush=True)
                 failed, passed = failed + (why is not None), passed + (why is None)
-        finally:
-            room.process.kill()
-            room.process.communicate()
     if given.pictures:
         with Shown(tools) as at:
             pictures(browser, at, given.pictures)

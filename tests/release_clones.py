@@ -30,7 +30,7 @@ int main(int count, char **words) {{
 DOCUMENTS = (
     "CHANGELOG.md", "README.md", "docs/BENCH.md", "docs/FORMATS.md", "docs/INTERCHANGE.md", "docs/KEEPING.md",
     "docs/LIVING.md", "docs/PROVED.md", "docs/READING-ROOM.md", "docs/REFUSALS.md", "docs/SHEETS.md",
-    "docs/VERSIONS.md", "docs/WALK.md",
+    "docs/VERSIONS.md", "docs/WALK.md", "docs/room-family.png", "docs/room-person.png",
 )
 SAMPLES = ("samples/README.md", "samples/note.ged")
 

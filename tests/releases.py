@@ -234,7 +234,7 @@ def no_note_of_a_gate_that_failed(folder):
 
 def links_of_packaged_documents():
     """They lead to documents of the package; those to the source's are named in IN_THE_SOURCE."""
-    for name in (*DOCUMENTS, "samples/README.md"):
+    for name in (*(it for it in DOCUMENTS if it.endswith(".md")), "samples/README.md"):
         with open(os.path.join(ROOT, name), encoding="utf-8") as file:
             links = [link.partition("#")[0] for link in LINK.findall(CODE.sub("", file.read()))]
         to = {os.path.normpath(os.path.join(os.path.dirname(name), link)) for link in links if link and ":" not in link}
