@@ -1,0 +1,13 @@
+pub mod Entries
+pub mod Events
+pub mod Leaving
+pub mod Lists
+pub mod Persons
+pub mod Refused
+pub mod Retagging
+pub mod Same
+pub mod Sources
+pub mod Stepping
+pub mod Stored
+pub mod Walk
+pub mod Wording
