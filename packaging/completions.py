@@ -95,7 +95,7 @@ def abouts(root):
 
 def commands(root):
     """The commands in the order of the help."""
-    table, words, told = text_of(root, "commands.rt"), words_of(root), abouts(root)
+    table, words, told = text_of(root, "subcommands.rt"), words_of(root), abouts(root)
     rows = {row[0]: row[1:] for row in ROW.findall(table)}
     found = []
     for constant in re.findall(r"\w+", ORDER.search(table)[1]):

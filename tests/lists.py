@@ -122,6 +122,7 @@ CARRIED_SHOWN = {
     3: "3  other  OBJE\ntag: OBJE\nvalue: 1\n1 FILE a.png\n",
 }
 NO_NUMBERS = ("0", "x", "", "4294967296", "1.0", "-1", "99999999999")
+NO_REFERENCES = ("@", "@ ", "@a b", "@é", f"@{65 * 'x'}", " @a", "a@")
 NO_KINDS = ("people", "Persons", "", "person", "slip", "Slips")
 NO_KEYS = ("'", "-", "", " ", "’", "/")
 WORDS = (
@@ -137,12 +138,13 @@ WORDS = (
     ("list", "FILE", "slips", "--source", "10"),
     *(("list", "FILE", "persons", "--limit", number) for number in NO_NUMBERS),
     *(("list", "FILE", "persons", "--after", number) for number in NO_NUMBERS[1:]),
-    *(("list", "FILE", "entries", "--source", number) for number in NO_NUMBERS),
+    *(("list", "FILE", "entries", "--source", number) for number in (*NO_NUMBERS, *NO_REFERENCES)),
+    ("list", "FILE", "persons", "--source", "@k"), ("list", "FILE", "persons", "--after", "@a"),
     *(("find", "FILE", "ann", "--limit", number) for number in NO_NUMBERS),
     *(("find", "FILE", word) for word in NO_KEYS),
     *(("find", "FILE", "ann", word) for word in NO_KEYS),
-    *(("show", "FILE", number) for number in NO_NUMBERS),
-    *(("show", "FILE", "1", number) for number in NO_NUMBERS),
+    *(("show", "FILE", number) for number in (*NO_NUMBERS, *NO_REFERENCES)),
+    *(("show", "FILE", "1", number) for number in (*NO_NUMBERS, *NO_REFERENCES)),
 )
 
 
@@ -211,6 +213,33 @@ def records_by_hand(tools):
             expect(at.show(number), written(whole(number).encode()))
         for numbers in ((3, 1), (7, 7), tuple(LINES)):
             expect(at.show(*numbers), written("\n".join(map(whole, numbers)).encode()))
+        demand(at.tables() == before, "the tables changed")
+
+
+def numbers_by_token(tools):
+    """The first number of the answer that is stored for the token after `@`; 50 if there is none, and nothing is
+    written."""
+    with Listed(tools) as at:
+        at.with_rows(ROWS)
+        batch = "BURIAL,f. 4,1,,,,buried,Ann Lee\nBURIAL,f. 4,2,,,,buried,Tom Lee\n"
+        entered = run(tools.parish, ("entries", at.file, "--source", "10", "--token", 64 * "b"), batch.encode())
+        expect(entered, written(b"made 2 entries, first 13\n"))
+        answers = at.apply(b"@,sex,1,F\nx,event,99,BIRT,,,\n").out
+        demand(answers == b"@,ok,0,0\nx,refused,50,NoSuch\n", f"{answers!r}")
+        before = at.tables()
+        for token, number in (("a", 1), ("f", 5), ("g", 6), ("l", 11)):
+            expect(at.show(f"@{token}"), written(whole(number).encode()))
+        expect(at.show("@c", 1, "@a"), written("\n".join(map(whole, (3, 1, 1))).encode()))
+        first = "13  entry  source 10  page f. 4  no. 1  BURIAL\n"
+        demand(at.show(f"@{64 * 'b'}").out.startswith(first.encode()), "the first of a batch")
+        expect(at.list("entries", "--source", "@k", "--limit", "1"), listed((12,)))
+        expect(at.list("entries", "--source", "@j"), listed(()))
+        for word in ("@@", "@x", "@none", "@A", "@e", f"@{64 * 'a'}"):
+            expect(at.show(word), refused(50))
+            expect(at.show(1, word), refused(50))
+            expect(at.show(word, 1), refused(50))
+            expect(at.list("entries", "--source", word), refused(50))
+            expect(at.list("entries", "--source", word, "--csv"), refused(50))
         demand(at.tables() == before, "the tables changed")
 
 
@@ -322,7 +351,7 @@ def a_slip_of_a_merge(tools):
         changed = "before: 1  person  Ann Lee\nbefore: 2  person  Anna Lee\nbefore: 4  family  husband 3  wife 2\n"
         end = f"merged: 2\ninto: 1\n{changed}names: 1  person  Ann Lee\n"
         expect(at.show(6), written(f"6  slip  2 into 1\n{end}".encode()))
-        expect(at.show(6, 6), written(f"6  slip  2 into 1\n{end}\n6  slip  2 into 1\n{end}".encode()))
+        expect(at.show(6, "@m"), written(f"6  slip  2 into 1\n{end}\n6  slip  2 into 1\n{end}".encode()))
         expect(at.show(2), refused(50))
         expect(at.show(6, 2), refused(50))
         answers = at.apply(b"u,undo,6\n").out
@@ -423,6 +452,7 @@ TESTS = (
     searches_by_hand,
     records_by_hand,
     events_and_citations_of_a_person,
+    numbers_by_token,
     lines_that_no_field_takes,
     nobody_is_masked,
     characters_that_are_not_printed,

@@ -13,7 +13,7 @@ import textwrap
 
 ROOT = os.path.dirname(os.path.dirname(os.path.abspath(__file__)))
 HELP = "crates/command_line/src"
-TEXTS = ("texts_in", "texts_out", "texts_finding", "arguments", "commands")
+TEXTS = ("texts_in", "texts_out", "texts_finding", "arguments", "subcommands")
 REFUSALS, KINDS = "crates/record_text/specs/Refusals.antt", "crates/record_text/src/refusal.rt"
 
 STRING = re.compile(r'^(?:pub\(crate\) )?const (\w+): &str =\s*"((?:[^"\\]|\\.)*)";', re.MULTILINE | re.DOTALL)
@@ -54,7 +54,7 @@ def constants(pattern):
 def commands():
     """The commands in the order of the help, each with its words."""
     rows, words = constants(COMMAND), constants(WORD)
-    for name in re.findall(r"\w+", ORDER.search(text_of(f"{HELP}/commands.rt"))[1]):
+    for name in re.findall(r"\w+", ORDER.search(text_of(f"{HELP}/subcommands.rt"))[1]):
         row = rows[name]
         yield row, [words[word] for word in re.findall(r"\w+", row["words"])]
 

@@ -37,8 +37,7 @@ use Rattle.archive_core.specs.Machine.{Done, Runs, import_of}
 use Rattle.archive_core.specs.declared.request.Request.{Request}
 use Rattle.archive_output.specs.Exporting.{export_text}
 use Rattle.archive_output.specs.Reading.{OnOpen}
-use Rattle.archive_tables.specs.Texts.{shown_text}
-use Rattle.record_lists.specs.Texts.{list_text}
+use Rattle.archive_tables.specs.Texts.{list_of, shown_text}
 use Rattle.archive_state.specs.Content.{Content}
 use Rattle.archive_tables.specs.Entering.{EntersEntries, EntersPage, IsEntered, answered, page_request}
 use Rattle.archive_tables.specs.declared.entering.PageEnd.TheVariants.{Entered, Unread}
@@ -211,7 +210,7 @@ module _ {R W F : Type 0} (reader : read.Ghosts R) (reads : device.Ghosts R) (wr
   acts_none (task.Library today) c none never = refl
   acts_none task.Audit c none never = refl
   acts_none (task.Days first last words) c none never = refl
-  acts_none (task.List listing) c none never = refl
+  acts_none (task.List source listing) c none never = refl
   acts_none (task.Show numbers) c none never = refl
 
   pub keeps_none : (t : Task) (society : List ℕ) (c : Content) (left : Trees) → Acts c (Some t) (run t) []
@@ -787,9 +786,9 @@ module _ {R W F : Type 0} (reader : read.Ghosts R) (reads : device.Ghosts R) (wr
       found_by law back (task.Days first last words) o shown did finishes =
           keeps_none (task.Days first last words) society c left refl
           (inl (days_listed first last words did.0.0 did.0.2))
-      found_by law back (task.List listing) o shown did finishes =
-          keeps_none (task.List listing) society c left refl
-          (inl (text_printed (λ k. Some (list_text listing k)) did.0.0 did.0.2))
+      found_by law back (task.List source listing) o shown did finishes =
+          keeps_none (task.List source listing) society c left refl
+          (inl (text_printed (list_of source listing) did.0.0 did.0.2))
       found_by law back (task.Show numbers) o shown did finishes =
           keeps_none (task.Show numbers) society c left refl
           (inl (text_printed (λ k. shown_text k numbers.items) did.0.0 did.0.2))

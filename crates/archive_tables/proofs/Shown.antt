@@ -4,14 +4,15 @@ use Rattle.std.specs.Prelude.{Option, Some}
 use Rattle.std.proofs.lemmas.List.{take_all, take_more}
 use Rattle.std.proofs.lemmas.List.Sums.{fold-append}
 use Rattle.archive_state.specs.Content.{Content}
-use Rattle.showing.specs.Shown.{shown_at}
-use Rattle.archive_tables.specs.Texts.{both, shown_text}
+use Rattle.row_references.specs.declared.words.NumberWord.{NumberWord}
+use Rattle.archive_tables.specs.Texts.{both, shown_by, shown_text}
 
-pub one_more : (c : Content) (ns : List ℕ) (i : ℕ) → i < length ns
-    → shown_text c (take (i + 1) ns) ≡ both (shown_text c (take i ns)) (shown_at c (get_or ns i 0))
-one_more c ns i less = ap (shown_text c) (take_more ns i 0 less)
-    ∙ fold-append (λ (above : Option (List ℕ)) n. both above (shown_at c n)) (Some []) (take i ns)
-    (get_or ns i 0 ∷ [])
+pub one_more : (c : Content) (ns : List NumberWord) (i : ℕ) (d : NumberWord) → i < length ns
+    → shown_text c (take (i + 1) ns) ≡ both (shown_text c (take i ns)) (shown_by c (get_or ns i d))
+one_more c ns i d less = ap (shown_text c) (take_more ns i d less)
+    ∙ fold-append (λ (above : Option (List ℕ)) word. both above (shown_by c word)) (Some []) (take i ns)
+    (get_or ns i d ∷ [])
 
-pub all_shown : (c : Content) (ns : List ℕ) (i : ℕ) → length ns ≤ i → shown_text c (take i ns) ≡ shown_text c ns
+pub all_shown : (c : Content) (ns : List NumberWord) (i : ℕ) → length ns ≤ i
+    → shown_text c (take i ns) ≡ shown_text c ns
 all_shown c ns i all = ap (shown_text c) (take_all i ns all)

@@ -18,6 +18,7 @@ mod checking;
 mod entering;
 mod looking;
 mod request;
+mod sources;
 mod whole;
 mod writing;
 

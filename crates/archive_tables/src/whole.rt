@@ -3,21 +3,21 @@
 ghost use Rattle.std.specs.Prelude.{◌≡◌, IfOk, option_map, string_bytes};
 ghost use Rattle.archive_state.specs.Looks.{CountsFailures, Looked};
 ghost use Rattle.archive_state.specs.Views.{On};
-ghost use Rattle.showing.specs.Shown.{shown_at};
 ghost use Rattle.archive_tables.specs.Texts as texts;
 
 use archive_state::View;
 use record_text::RefusalKind;
+use row_references::{NumberWord, number_in};
 use showing::show;
 use std::alloc::{AllocError, Global};
 
-/// The records and slips of these numbers, each whole, with a blank line between two. `None`: one of the numbers is of
-/// neither.
+/// The records and slips of these numbers, each whole, with a blank line between two. `None`: one of the words gives no
+/// number, or one that is of neither.
 #[tactic(auto, using(crate::proofs::Shown::one_more, crate::proofs::Shown::all_shown))]
 fn shown_text<V: View>(
     alloc: Global,
     view: &mut V,
-    numbers: &[u32],
+    numbers: &[NumberWord],
 ) -> Result<Option<String>, RefusalKind>
     ensures shows { On V.View view.old view.new (λ c. Looked result
         (λ text. option_map string_bytes text ≡ texts.shown_text c numbers.now)) }
@@ -25,7 +25,7 @@ fn shown_text<V: View>(
 {
     let mut text = Some(String::new(alloc));
     'each: for number in numbers {
-        text = with_record(alloc, view, text, *number)?;
+        text = with_record(alloc, view, text, number)?;
     }
     Ok(text)
 }
@@ -34,7 +34,7 @@ fn shown_text<V: View>(
 pub(crate) fn shown_bytes<V: View>(
     alloc: Global,
     view: &mut V,
-    numbers: &[u32],
+    numbers: &[NumberWord],
 ) -> Result<Option<Vec<u8>>, RefusalKind>
     ensures shows { On V.View view.old view.new (λ c. Looked result
         (λ text. option_map texts.items_of text ≡ texts.shown_text c numbers.now)) }
@@ -53,20 +53,36 @@ fn bytes_of(text: Option<String>) -> Option<Vec<u8>>
     }
 }
 
-/// The record of a number below those before it. `None`: one of them is missing, or this one.
+/// The record of the number that a word gives below those before it. `None`: one of them is missing, or this one.
 fn with_record<V: View>(
     alloc: Global,
     view: &mut V,
     above: Option<String>,
-    number: u32,
+    word: &NumberWord,
 ) -> Result<Option<String>, RefusalKind>
     ensures shows { On V.View view.old view.new (λ c. Looked result (λ text. option_map string_bytes text
-        ≡ texts.both (option_map string_bytes above) (shown_at c number))) }
+        ≡ texts.both (option_map string_bytes above) (texts.shown_by c word.now))) }
     ensures counts { CountsFailures (V.failed view.old) (V.failed view.new) result }
 {
-    match show(alloc, view, number) {
+    match show_by(alloc, view, word) {
         Ok(found) => Ok(both(above, found)?),
         Err(kind) => Err(kind),
+    }
+}
+
+/// The record or slip of the number that a word gives, whole. `None`: it gives none, or there is none.
+fn show_by<V: View>(
+    alloc: Global,
+    view: &mut V,
+    word: &NumberWord,
+) -> Result<Option<String>, RefusalKind>
+    ensures shows { On V.View view.old view.new
+        (λ c. Looked result (λ text. option_map string_bytes text ≡ texts.shown_by c word.now)) }
+    ensures counts { CountsFailures (V.failed view.old) (V.failed view.new) result }
+{
+    match number_in(alloc, view, word)? {
+        Some(number) => show(alloc, view, number),
+        None => Ok(None),
     }
 }
 

@@ -13,33 +13,36 @@ ghost use Rattle.store.specs.Histories.{has_broken};
 ghost use Rattle.archive_tables.specs.Ends.{EndsWriting, OnRead};
 ghost use Rattle.archive_tables.specs.Texts as texts;
 
+use crate::sources::listed_of;
 use crate::whole::shown_bytes;
 use archive_state::View;
 use devices::{Device, TransferError, write_bytes};
 use record_lists::{Listed, list_text};
 use record_text::RefusalKind;
+use row_references::{NumberWord, number_in};
 use sqlite::Alter;
 use std::alloc::Global;
 use std::io::Write;
 use store::Archive;
 use store::laws::looks_are_a_call;
 
-/// Writes what is listed, as lines or as rows of CSV, and of records how many more there are where that is asked for.
-/// The archive is not changed; an import that is open stays open, and nothing of it is written.
+/// Writes what is listed, as lines or as rows of CSV, and of records how many more there are if that is asked for; if a
+/// word gives the number of a source, only what is of that source. The archive is not changed; an import that is open
+/// stays open, and nothing of it is written.
 ///
-/// 80: the database failed, and the archive has to be opened again. 40: somebody else has spoilt what is stored. At
-/// these nothing is written. 95: the output failed. 1: memory was refused. At these a beginning of the text may have
-/// been written.
+/// 50: the word gives no number. 80: the database failed, and the archive has to be opened again. 40: somebody else has
+/// spoilt what is stored. At these nothing is written. 95: the output failed. 1: memory was refused. At these a
+/// beginning of the text may have been written.
 pub fn write_list<S: Alter, W: Write + Device>(
     alloc: Global,
     archive: &mut Archive<S>,
-    listed: &Listed,
+    source: &Option<NumberWord>,
+    listed: Listed,
     writer: &mut W,
 ) -> Result<(), RefusalKind>
     requires kept { archive.old.is_lost ≡ false }
     ensures ended { OnRead (state S.Store archive.old.conn) (state S.Store archive.new.conn)
-        (λ c. EndsWriting result (W.contents writer.old) (W.contents writer.new)
-        (Some (list_text listed.now c))) }
+        (λ c. EndsWriting result (W.contents writer.old) (W.contents writer.new) (texts.list_of source.now listed c)) }
     ensures unread { IfErr result
         (λ kind. is_failure kind ≡ true → Keeps (W.contents writer.old) (W.contents writer.new)) }
     ensures writer { IfErr result (λ kind. kind ≡ WriteFailed → Rose (W.failed writer.old) (W.failed writer.new)) }
@@ -48,7 +51,7 @@ pub fn write_list<S: Alter, W: Write + Device>(
 {
     looks_are_a_call::<S>();
     let import = archive.set_aside();
-    let text = listed_bytes(alloc, archive, listed);
+    let text = listed_bytes(alloc, archive, source, listed);
     archive.put_back(import);
     write_found(archive.is_lost(), text, writer)
 }
@@ -56,13 +59,13 @@ pub fn write_list<S: Alter, W: Write + Device>(
 /// Writes the records of these numbers, each whole, with a blank line between two. The archive is not changed; an
 /// import that is open stays open, and nothing of it is written.
 ///
-/// 50: a number is of no record and no slip. 80: the database failed, and the archive has to be opened again. 40:
-/// somebody else has spoilt what is stored. At these nothing is written. 95: the output failed. 1: memory was refused.
-/// At these a beginning of the text may have been written.
+/// 50: a word gives no number, or one that is of no record and no slip. 80: the database failed, and the archive has to
+/// be opened again. 40: somebody else has spoilt what is stored. At these nothing is written. 95: the output failed. 1:
+/// memory was refused. At these a beginning of the text may have been written.
 pub fn write_shown<S: Alter, W: Write + Device>(
     alloc: Global,
     archive: &mut Archive<S>,
-    numbers: &[u32],
+    numbers: &[NumberWord],
     writer: &mut W,
 ) -> Result<(), RefusalKind>
     requires kept { archive.old.is_lost ≡ false }
@@ -81,17 +84,51 @@ pub fn write_shown<S: Alter, W: Write + Device>(
     write_found(archive.is_lost(), text, writer)
 }
 
-/// What is listed. There always is a text.
+/// What is listed. `None`: it is of a source of which the word gives no number.
 fn listed_bytes<V: View>(
     alloc: Global,
     view: &mut V,
-    listed: &Listed,
+    source: &Option<NumberWord>,
+    listed: Listed,
 ) -> Result<Option<Vec<u8>>, RefusalKind>
     ensures shows { On V.View view.old view.new (λ c. Looked result
-        (λ text. option_map texts.items_of text ≡ Some (list_text listed.now c))) }
+        (λ text. option_map texts.items_of text ≡ texts.list_of source.now listed c)) }
     ensures counts { CountsFailures (V.failed view.old) (V.failed view.new) result }
 {
-    let text = list_text(alloc, view, listed)?;
+    match source {
+        None => all_bytes(alloc, view, listed),
+        Some(word) => bytes_by(alloc, view, word, listed),
+    }
+}
+
+/// What is listed of the source of which a word gives the number. `None`: it gives none.
+fn bytes_by<V: View>(
+    alloc: Global,
+    view: &mut V,
+    word: &NumberWord,
+    listed: Listed,
+) -> Result<Option<Vec<u8>>, RefusalKind>
+    ensures shows { On V.View view.old view.new (λ c. Looked result
+        (λ text. option_map texts.items_of text ≡ texts.list_by word.now listed c)) }
+    ensures counts { CountsFailures (V.failed view.old) (V.failed view.new) result }
+{
+    match number_in(alloc, view, word)? {
+        Some(number) => all_bytes(alloc, view, listed_of(listed, number)),
+        None => Ok(None),
+    }
+}
+
+/// What is listed. There always is a text.
+fn all_bytes<V: View>(
+    alloc: Global,
+    view: &mut V,
+    listed: Listed,
+) -> Result<Option<Vec<u8>>, RefusalKind>
+    ensures shows { On V.View view.old view.new (λ c. Looked result
+        (λ text. option_map texts.items_of text ≡ Some (list_text listed c))) }
+    ensures counts { CountsFailures (V.failed view.old) (V.failed view.new) result }
+{
+    let text = list_text(alloc, view, &listed)?;
     Ok(Some(text))
 }
 

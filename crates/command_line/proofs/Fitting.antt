@@ -47,7 +47,7 @@ use Rattle.command_line.specs.Asking.{
   is_table_fit,
   name_of,
 }
-use Rattle.command_line.specs.Meanings.{order_named, records_named, set_named}
+use Rattle.command_line.specs.Meanings.{number_word, order_named, records_named, set_named}
 use Rattle.command_line.specs.Commands.{program}
 use Rattle.command_line.specs.declared.tasks.Asked.{Asked}
 use Rattle.command_line.specs.declared.tasks.Asked.TheVariants as asked
@@ -95,9 +95,9 @@ meant_there {A} meaning (Some w) (Some v) e = ap (λ (o : Option (Option A)). op
 both_true : (a b : Bool) → a ≡ true → b ≡ true → (a && b) ≡ true
 both_true a b e f = rw (e, f) refl
 
-list_there : (o : Option ListKind) (kind : ListKind) (source given : Option ℕ) → o ≡ Some kind → source ≡ given
-    → is_listed kind source ≡ true → option_map_or (λ k. is_listed k given) o false ≡ true
-list_there o kind source given e is listed = rw e (subst (λ (s : Option ℕ). is_listed kind s ≡ true) is listed)
+list_there : (o : Option ListKind) (kind : ListKind) (has : Bool) → o ≡ Some kind → is_listed kind has ≡ true
+    → option_map_or (λ k. is_listed k has) o false ≡ true
+list_there o kind has e listed = rw e listed
 
 batch_there : {A B C : Type 0} (table checked fits : Bool) (token : Option A) (dates : Option B) (set : Option C)
     (t : A) → table ≡ false → checked ≡ false → token ≡ Some t → dates ≡ None → set ≡ None
@@ -186,12 +186,12 @@ fit_of (asked.Days file first last told) found e has some =
     (λ rows words. both_there _ _ first last words.1 words.2)
 fit_of (asked.List file kind source after limit csv) found e has some =
     fit_by (asked.List file kind source after limit csv) found (codes "list") e has
-    (λ rows words. list_there _ kind source _ words.1 words.2 words.3)
+    (λ rows words. both_true _ _ (list_there _ kind _ words.1 words.3) (meant_there number_word _ source words.2))
 fit_of (asked.Find file names kind limit csv) found e has some =
     fit_by (asked.Find file names kind limit csv) found (codes "find") e has
     (λ rows words. both_true _ _ words.2 (meant_there records_named _ kind words.3))
 fit_of (asked.Show file numbers) found e has some =
-    fit_by (asked.Show file numbers) found (codes "show") e has (λ rows words. refl)
+    fit_by (asked.Show file numbers) found (codes "show") e has (λ rows words. words.2)
 fit_of (asked.Review file csv) found e has some =
     fit_by (asked.Review file csv) found (codes "review") e has (λ rows words. refl)
 fit_of (asked.Completions text) found e has some =

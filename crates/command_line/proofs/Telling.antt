@@ -1,4 +1,4 @@
--- A table is given to `clap` a row at a time, and numbers are read one at a time.
+-- A table is given to `clap` a row at a time, and words are read one at a time.
 use Rattle.std.proofs.Common.{
   ◌≡◌,
   ◌<◌,
@@ -47,17 +47,7 @@ one_more step f xs i d a b all less was is =
     ∙ (sym (ap (λ ys. fold step a (map f ys))
     (drop-cons xs i d less ∙ ap (λ k. get_or xs i d ∷ drop k xs) (sym (add-one i)))) ∙ was)
 
--- with one more number what is read so far and what is left stay all
-pub one_number : {A B C : Type 0} (f : A → B) (g : B → C) (xs : List A) (i : ℕ) (d : A) (old new all : List C)
-    → i < length xs → old ++ map g (map f (drop i xs)) ≡ all → new ≡ old ++ g (f (get_or xs i d)) ∷ []
-    → new ++ map g (map f (drop (i + 1) xs)) ≡ all
-one_number {A} {B} {C} f g xs i d old new all less was is =
-    let rest = map g (map f (drop (i + 1) xs)) in
-    ap (λ (l : List C). l ++ rest) is ∙ (append_assoc old (g (f (get_or xs i d)) ∷ []) rest
-    ∙ (sym (ap (λ (ys : List A). old ++ map g (map f ys))
-    (drop-cons xs i d less ∙ ap (λ k. get_or xs i d ∷ drop k xs) (sym (add-one i)))) ∙ was))
-
--- the same of the words of a search
+-- with one more word what is read so far and what is left stay all
 pub one_word : {A B C : Type 0} (f : A → B) (g : B → List C) (xs : List A) (i : ℕ) (d : A) (old new all : List C)
     → i < length xs → old ++ flat_map g (map f (drop i xs)) ≡ all → new ≡ old ++ g (f (get_or xs i d))
     → new ++ flat_map g (map f (drop (i + 1) xs)) ≡ all

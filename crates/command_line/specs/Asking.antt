@@ -22,7 +22,6 @@ use Rattle.std.specs.Prelude.{
   codes,
   is_some,
   flat_map,
-  map,
   not,
   option_and_then,
   option_map,
@@ -41,12 +40,15 @@ use Rattle.command_line.specs.Commands.{program}
 use Rattle.command_line.specs.Days.{day_read}
 use Rattle.command_line.specs.Meanings.{
   generations_of,
+  is_number,
   is_searched,
   is_shell,
   kind_named,
   list_named,
   number_of,
   number_up_to,
+  number_word,
+  numbers_in,
   order_named,
   records_named,
   search_words,
@@ -194,13 +196,13 @@ abbrev pub IsMeant : {A : Type 0} → (Text → Option A) → Option Text → Op
 IsMeant meaning word value = option_map meaning word ≡ option_map Some value
 
 -- a list is one of the entries of a source only where it is one of entries
-abbrev pub is_of_source : RecordKind → Option ℕ → Bool
-is_of_source Entries source = true
-is_of_source kind source = not (is_some source)
+abbrev pub is_of_source : RecordKind → Bool → Bool
+is_of_source Entries has_source = true
+is_of_source kind has_source = not has_source
 
-abbrev pub is_listed : ListKind → Option ℕ → Bool
-is_listed (Records kind) source = is_of_source kind source
-is_listed Slips source = not (is_some source)
+abbrev pub is_listed : ListKind → Bool → Bool
+is_listed (Records kind) has_source = is_of_source kind has_source
+is_listed Slips has_source = not has_source
 
 abbrev pub kind_in : Option (Text × List Row) → Option SheetKind
 kind_in found = kind_named (word_in found (codes "KIND"))
@@ -263,7 +265,8 @@ HasWords found (Days file first last words) =
     × (day_given found (codes "to") ≡ Some last) × (words ≡ is_given found (codes "words"))
 HasWords found (ListAsked file kind source after limit csv) =
     (file.now ≡ word_in found (codes "FILE")) × (list_named (word_in found (codes "KIND")) ≡ Some kind)
-    × (source ≡ number_given found (codes "source")) × (is_listed kind source ≡ true)
+    × IsMeant number_word (given_in found (codes "source")) source
+    × (is_listed kind (is_some (given_in found (codes "source"))) ≡ true)
     × (after ≡ number_of (word_in found (codes "after"))) × (limit ≡ number_given found (codes "limit"))
     × (csv ≡ is_csv found)
 HasWords found (Find file words kind limit csv) =
@@ -272,7 +275,8 @@ HasWords found (Find file words kind limit csv) =
     × IsMeant records_named (given_in found (codes "kind")) kind × (limit ≡ number_given found (codes "limit"))
     × (csv ≡ is_csv found)
 HasWords found (Show file numbers) =
-    (file.now ≡ word_in found (codes "FILE")) × (numbers.items ≡ map number_of (words_in found (codes "NO")))
+    (file.now ≡ word_in found (codes "FILE")) × (numbers.items ≡ flat_map numbers_in (words_in found (codes "NO")))
+    × (list_all is_number (words_in found (codes "NO")) ≡ true)
 HasWords found (Completions text) = is_shell (word_in found (codes "SHELL")) ≡ true
 HasWords found _ = ⊤
 
@@ -298,10 +302,12 @@ is_meant meaning word = option_map_or (λ w. is_some (meaning w)) word true
 abbrev pub are_pages_fit : Option (Text × List Row) → Bool
 are_pages_fit found = is_html found || not (is_some (given_in found (codes "host")))
 
--- a list has a kind of records or is of slips, and it has a source only with entries
+-- a list has a kind of records or is of slips, and it has a source only with entries, which is given by a number
 abbrev pub is_list_fit : Option (Text × List Row) → Bool
-is_list_fit found = option_map_or (λ kind. is_listed kind (number_given found (codes "source")))
+is_list_fit found =
+    option_map_or (λ kind. is_listed kind (is_some (given_in found (codes "source"))))
     (list_named (word_in found (codes "KIND"))) false
+    && is_meant number_word (given_in found (codes "source"))
 
 -- a search has words that can be searched for, and where a kind is given it is one
 abbrev pub is_search_fit : Option (Text × List Row) → Bool
@@ -328,7 +334,8 @@ are_entries_fit found = if is_table found then is_table_fit found else is_batch_
 
 -- beside the grammar: entries are a batch or a table with a token, or a table that is checked, a sheet has a kind and a
 -- day, a room has a day and a name only with HTML, a list has a kind, a search has words with letters or digits,
--- completions are of a shell, and what is given of a kind, of a character set or of an order of dates is one
+-- completions are of a shell, records are shown by numbers, and what is given of a kind, of a character set or of an
+-- order of dates is one
 abbrev pub is_fit : Option (Text × List Row) → Bool
 is_fit found =
     if is_named found (codes "export") then is_export_fit found
@@ -340,6 +347,7 @@ is_fit found =
     else if is_named found (codes "convert") then is_meant set_named (given_in found (codes "from"))
     else if is_named found (codes "list") then is_list_fit found
     else if is_named found (codes "find") then is_search_fit found
+    else if is_named found (codes "show") then list_all is_number (words_in found (codes "NO"))
     else if is_named found (codes "completions") then is_shell (word_in found (codes "SHELL"))
     else true
 

@@ -154,9 +154,9 @@ all_rule = flag_rule (codes "all")
 abbrev pub set_rule : Rule
 set_rule = option_rule (codes "from")
 
--- `--source N`, `--after NUMBER` and `--limit N`, which may be left out
+-- `--source N`, any word here, `--after NUMBER` and `--limit N`, which may be left out
 abbrev pub maybe_source_rule : Rule
-maybe_source_rule = maybe_number_rule (codes "source") 1 4294967295
+maybe_source_rule = option_rule (codes "source")
 
 abbrev pub after_rule : Rule
 after_rule = maybe_number_rule (codes "after") 0 4294967295
@@ -180,9 +180,9 @@ option_kind_rule = option_rule (codes "kind")
 abbrev pub search_rule : Rule
 search_rule = last_rule (codes "WORD")
 
--- NO.., numbers of records
+-- NO.., any words here
 abbrev pub records_rule : Rule
-records_rule = record (last_rule (codes "NO")) { parser = Some (Unsigned 1 4294967295) }
+records_rule = last_rule (codes "NO")
 
 -- the commands
 abbrev pub norm_shape : Shape

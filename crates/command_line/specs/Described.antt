@@ -7,7 +7,7 @@ use Rattle.clap.specs.declared.builder.value_parser.ValueParser.TheVariants.{Uns
 use Rattle.command_line.specs.declared.arguments.Form.{Form}
 use Rattle.command_line.specs.declared.arguments.Form.TheVariants.{Flag, Named, Place, Places}
 use Rattle.command_line.specs.declared.arguments.Word.{Word}
-use Rattle.command_line.specs.declared.commands.CommandRow.{CommandRow}
+use Rattle.command_line.specs.declared.subcommands.CommandRow.{CommandRow}
 
 -- the form of a word, whose name is its id
 abbrev pub with_form : Form → Text → Rule → Rule

@@ -1,6 +1,8 @@
--- What a word of a command line means: a number, a kind, a character set, or what is searched for.
+-- What a word of a command line means: a number, the number of a record, a kind, a character set, or what is searched
+-- for.
 use Rattle.std.specs.Prelude.{
   ◌&&◌,
+  ◌==◌,
   ℕ,
   Bool,
   List,
@@ -13,12 +15,16 @@ use Rattle.std.specs.Prelude.{
   false,
   chars,
   codes,
+  is_some,
   nat_le,
   option_map,
   if◌then◌else◌,
 }
 use Rattle.std.specs.Str.{bytes_eq}
 use Rattle.std.specs.Str.Parse.{digits_value, without_leading_plus}
+use Rattle.row_references.specs.References.{token_in}
+use Rattle.row_references.specs.declared.words.NumberWord.{NumberWord}
+use Rattle.row_references.specs.declared.words.NumberWord.TheVariants.{Number, Reference}
 use Rattle.searching.specs.Folding.{folded_text}
 use Rattle.searching.specs.Words.{words_of}
 use Rattle.clap.specs.Words.{Text}
@@ -61,6 +67,30 @@ number_up_to most word = if is_unsigned_in 0 most word then digits_value 10 (wit
 -- the same of 32 bits
 abbrev pub number_of : Text → ℕ
 number_of word = number_up_to 4294967295 word
+
+-- the number of a record that is given as such; none: it is 0
+abbrev pub plain_number : ℕ → Option NumberWord
+plain_number n = if n == 0 then None else Some (Number n)
+
+-- by the token of a reference, or else by a number
+abbrev pub number_by : Option (List ℕ) → ℕ → Option NumberWord
+number_by None n = plain_number n
+number_by (Some token) n = Some (Reference token)
+
+-- the number of a record that a word gives: by `@` and a token, or as a number from 1
+abbrev pub number_word : Text → Option NumberWord
+number_word word = number_by (token_in word) (number_of word)
+
+abbrev pub is_number : Text → Bool
+is_number word = is_some (number_word word)
+
+-- the same as a list, which is empty if the word gives none
+abbrev pub listed : Option NumberWord → List NumberWord
+listed None = []
+listed (Some number) = number ∷ []
+
+abbrev pub numbers_in : Text → List NumberWord
+numbers_in word = listed (number_word word)
 
 -- the generations of a pedigree that a word tells: 4 where it is no number from 1 to 12
 abbrev pub generations_of : Text → ℕ

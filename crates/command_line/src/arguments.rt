@@ -270,13 +270,13 @@ pub(crate) const OPTION_KIND: Word = Word {
 
 const RECORD_KIND_HELP: &str = "The kind of the records, one of those below";
 
-/// Whether it goes with the kind is judged where it is read.
+/// Whether it goes with the kind, and gives a number, is judged where it is read.
 pub(crate) const MAYBE_SOURCE: Word = Word {
     id: "source",
-    help: "Only the entries of the source of this number, 1 to 4294967295",
+    help: "Only the entries of the source of this number, 1 to 4294967295, or @TOKEN",
     form: Form::Named("N"),
     needed: false,
-    numbers: Some((1, MOST_NUMBER)),
+    numbers: None,
 };
 
 pub(crate) const AFTER: Word = Word {
@@ -329,12 +329,13 @@ pub(crate) const SEARCH: Word = Word {
     numbers: None,
 };
 
+/// Whether they give numbers is judged where they are read.
 pub(crate) const RECORDS: Word = Word {
     id: "NO",
-    help: "The numbers of the records, 1 to 4294967295",
+    help: "The numbers of the records, 1 to 4294967295, or @TOKEN",
     form: Form::Places,
     needed: true,
-    numbers: Some((1, MOST_NUMBER)),
+    numbers: None,
 };
 
 /// The word as `clap` gets it.

@@ -10,6 +10,7 @@ ghost use Rattle.std.specs.Prelude.{
   ⊤,
   codes,
   flat_map,
+  is_some,
   map,
   option_map,
   true,
@@ -26,17 +27,26 @@ ghost use Rattle.command_line.specs.Asking.{
   is_of_source,
   name_of,
 };
-ghost use Rattle.command_line.specs.Meanings.{is_searched, records_named, search_words, set_named};
+ghost use Rattle.command_line.specs.Meanings.{
+  is_number,
+  is_searched,
+  number_word,
+  numbers_in,
+  records_named,
+  search_words,
+  set_named,
+};
 ghost use Rattle.command_line.specs.declared.tasks.Refused.TheVariants.{OutOfMemory};
 
-use crate::refusing::{no_entries, no_value, no_word};
+use crate::refusing::{no_entries, no_number, no_value, no_word};
 use crate::shells::completions_of;
 use crate::tasks::{Asked, ListKind, RecordKind, Refused, SetName};
 use crate::words::{
-    given_number, given_word, is_yes, list_named, number_of, numbers_of, records_named, set_named,
+    given_number, given_word, is_yes, list_named, number_of, number_word, records_named, set_named,
     word_of, words_of,
 };
 use clap::ArgMatches;
+use row_references::NumberWord;
 use searching::SearchWords;
 use std::alloc::{AllocError, Global};
 
@@ -66,7 +76,7 @@ pub(crate) fn set_given(alloc: Global, word: Option<&str>) -> Result<Option<SetN
 }
 
 /// `list`: the records of a kind, or the slips. Refused where the kind is none, or a source is given and it is not that
-/// of entries.
+/// of entries, or its word gives no number.
 pub(crate) fn list_asked<'a>(alloc: Global, given: &ArgMatches<'a>) -> Result<Asked<'a>, Refused>
     ensures asked { IfOk result (λ a. name_of a ≡ Some (codes "list")) }
     ensures words { IfOk result (HasWords (Some (codes "list", rows_of (found_of given.now)))) }
@@ -76,37 +86,62 @@ pub(crate) fn list_asked<'a>(alloc: Global, given: &ArgMatches<'a>) -> Result<As
     let Some(kind) = list_named(word) else {
         return Err(no_value(alloc, word, "<KIND>", LISTED));
     };
-    let source = given_number(given, "source");
-    if !is_listed(kind, source) {
+    let source = given_word(given, "source");
+    if !is_listed(kind, is_there(source)) {
         return Err(no_entries(alloc, word));
     }
     Ok(Asked::List {
         file: word_of(given, "FILE"),
         kind,
-        source,
+        source: source_given(alloc, source)?,
         after: number_of(word_of(given, "after")),
         limit: given_number(given, "limit"),
         csv: is_yes(word_of(given, "csv")),
     })
 }
 
-/// Whether a list of that kind may be given that source.
-fn is_listed(kind: ListKind, source: Option<u32>) -> bool
-    ensures { result ≡ is_listed kind source }
+/// Whether a word is given.
+fn is_there(word: Option<&str>) -> bool
+    ensures { result ≡ is_some (option_map (λ w. w.now) word.entry) }
+{
+    match word {
+        Some(_) => true,
+        None => false,
+    }
+}
+
+/// Whether a list of that kind may be given a source, if it is given one.
+fn is_listed(kind: ListKind, has_source: bool) -> bool
+    ensures { result ≡ is_listed kind has_source }
 {
     match kind {
-        ListKind::Records(kind) => is_of_source(kind, source),
-        ListKind::Slips => source.is_none(),
+        ListKind::Records(kind) => is_of_source(kind, has_source),
+        ListKind::Slips => !has_source,
     }
 }
 
 /// The same of a list of records.
-fn is_of_source(kind: RecordKind, source: Option<u32>) -> bool
-    ensures { result ≡ is_of_source kind source }
+fn is_of_source(kind: RecordKind, has_source: bool) -> bool
+    ensures { result ≡ is_of_source kind has_source }
 {
     match kind {
         RecordKind::Entries => true,
-        _ => source.is_none(),
+        _ => !has_source,
+    }
+}
+
+/// The number of the source as the word of an option gives it. Refused if it gives none.
+fn source_given(alloc: Global, word: Option<&str>) -> Result<Option<NumberWord>, Refused>
+    ensures source { IfOk result (IsMeant number_word (option_map (λ w. w.now) word.entry)) }
+    ensures taken { is_meant number_word (option_map (λ w. w.now) word.entry) ≡ true
+        → MatchResult result (λ _. ⊤) (λ refused. refused ≡ OutOfMemory) }
+{
+    let Some(word) = word else {
+        return Ok(None);
+    };
+    match number_word(alloc, word)? {
+        Some(number) => Ok(Some(number)),
+        None => Err(no_number(alloc, word, "--source <N>")),
     }
 }
 
@@ -166,17 +201,46 @@ fn kind_given(alloc: Global, word: Option<&str>) -> Result<Option<RecordKind>, R
     }
 }
 
-/// `show`: records of some numbers.
+/// `show`: records of some numbers. Refused if a word gives none.
 pub(crate) fn show_asked<'a>(alloc: Global, given: &ArgMatches<'a>) -> Result<Asked<'a>, Refused>
     ensures asked { IfOk result (λ a. name_of a ≡ Some (codes "show")) }
     ensures words { IfOk result (HasWords (Some (codes "show", rows_of (found_of given.now)))) }
     ensures taken { is_fit (Some (codes "show", rows_of (found_of given.now))) ≡ true → AsksForWork result }
 {
-    let words = words_of(alloc, given, "NO")?;
     Ok(Asked::Show {
         file: word_of(given, "FILE"),
-        numbers: numbers_of(alloc, &words)?,
+        numbers: numbers_of(alloc, &words_of(alloc, given, "NO")?)?,
     })
+}
+
+/// The numbers of records as words give them. Refused if one of them gives none.
+fn numbers_of(alloc: Global, words: &[&str]) -> Result<Vec<NumberWord>, Refused>
+    ensures numbers { IfOk result (λ numbers. numbers.items ≡ flat_map numbers_in (map (λ w. w.now) words.now)) }
+    ensures given { OnOk result (list_all is_number (map (λ w. w.now) words.now) ≡ true) }
+    ensures taken { list_all is_number (map (λ w. w.now) words.now) ≡ true
+        → MatchResult result (λ _. ⊤) (λ refused. refused ≡ OutOfMemory) }
+{
+    let mut numbers = Vec::new(alloc);
+    for word in words {
+        if !is_put(alloc, &mut numbers, word)? {
+            return Err(no_number(alloc, word, "<NO>..."));
+        }
+    }
+    Ok(numbers)
+}
+
+/// Puts the number that a word gives after those before it, and answers whether it gives one.
+fn is_put(alloc: Global, numbers: &mut Vec<NumberWord>, word: &str) -> Result<bool, AllocError>
+    ensures numbers { OnOk result (numbers.new.items ≡ numbers.old.items ++ numbers_in word.now) }
+    ensures given { IfOk result (λ given. given ≡ is_number word.now) }
+{
+    match number_word(alloc, word)? {
+        Some(number) => {
+            numbers.push(number)?;
+            Ok(true)
+        }
+        None => Ok(false),
+    }
 }
 
 /// `completions`: what a shell reads. Refused where the word is no shell.

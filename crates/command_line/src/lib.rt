@@ -9,7 +9,6 @@
 
 mod arguments;
 mod choosing;
-mod commands;
 mod days;
 mod entering;
 pub mod laws;
@@ -17,6 +16,7 @@ mod reading;
 mod refusing;
 mod shells;
 mod showing;
+mod subcommands;
 mod tasks;
 mod texts_finding;
 mod texts_in;

@@ -28,9 +28,9 @@ ghost use Rattle.command_line.specs.Asking.{
 };
 
 use crate::choosing::{completions_asked, convert_asked, find_asked, list_asked, show_asked};
-use crate::commands::parish_command;
 use crate::entering::entries_asked;
 use crate::showing::{days_asked, export_asked, serve_asked, sheet_asked};
+use crate::subcommands::parish_command;
 use crate::tasks::{Asked, Refused};
 use crate::words::{is_yes, word_of};
 use clap::error::ErrorKind;

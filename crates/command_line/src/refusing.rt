@@ -59,6 +59,13 @@ pub(crate) fn no_word(alloc: Global, word: &str) -> Refused {
     ))
 }
 
+/// The words are refused since that one gives no number of a record.
+pub(crate) fn no_number(alloc: Global, word: &str, place: &str) -> Refused {
+    refused(format!(in alloc;
+        "error: invalid value '{word}' for '{place}': neither {NUMBERS} nor @ and a token\n\n{HELP}"
+    ))
+}
+
 /// The words are refused since a source is given, and the list is not one of entries.
 pub(crate) fn no_entries(alloc: Global, kind: &str) -> Refused {
     refused(format!(in alloc;
@@ -84,5 +91,7 @@ const TABLE_USAGE: &str =
 
 const HTML_USAGE: &str =
     "Usage: parish serve --port <P> --count <N> --today <YYYY-MM-DD> --html [--host <NAME>] <FILE>";
+
+const NUMBERS: &str = "a number from 1 to 4294967295";
 
 const HELP: &str = "For more information, try '--help'.\n";

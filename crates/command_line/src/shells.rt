@@ -202,7 +202,7 @@ macintosh ansel)'
             '1:The file of the archive:_files' \\
             '2:The kind of the records, one of those below:(persons families events places repositories sources \
 citations entries others slips)' \\
-            '--source[Only the entries of the source of this number, 1 to 4294967295]:N:' \\
+            '--source[Only the entries of the source of this number, 1 to 4294967295, or @TOKEN]:N:' \\
             '--after[Only records with a greater number than this, 0 to 4294967295]:NUMBER:' \\
             '--limit[So many records at most, 1 to 4294967295 \\[default\\: all\\]]:N:' \\
             '--csv[Print rows of CSV below a header in place of lines]'
@@ -219,7 +219,7 @@ sources citations entries others)' \\
     show)
         _arguments '--help[Print help]' \\
             '1:The file of the archive:_files' \\
-            '*:The numbers of the records, 1 to 4294967295:'
+            '*:The numbers of the records, 1 to 4294967295, or @TOKEN:'
         ;;
     review)
         _arguments '--help[Print help]' \\

@@ -1,5 +1,6 @@
 //! What a command line may ask for, and why it may ask for nothing.
 
+use row_references::NumberWord;
 use searching::SearchWords;
 use std::alloc::AllocError;
 
@@ -111,7 +112,7 @@ pub enum Asked<'a> {
     List {
         file: &'a str,
         kind: ListKind,
-        source: Option<u32>,
+        source: Option<NumberWord>,
         after: u32,
         limit: Option<u32>,
         csv: bool,
@@ -133,7 +134,7 @@ pub enum Asked<'a> {
     /// `show`: the records of these numbers of the archive in a file, each whole, on standard output.
     Show {
         file: &'a str,
-        numbers: Vec<u32>,
+        numbers: Vec<NumberWord>,
     },
     /// `completions`: what a shell reads to complete words after `parish`, on standard output.
     Completions {

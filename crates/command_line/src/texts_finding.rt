@@ -6,13 +6,15 @@ pub(crate) const LIST_EXAMPLE: &str = "\
 KIND is persons, families, events, places, repositories, sources, citations,
 entries, others or slips. Each record is a line, by number: the number and what
 tells it from others. A slip says who was merged into whom, and if that was
-undone. With --source there are only the entries of that source. With --csv there
-are rows for a spreadsheet: the number and the description; with --source too the
-columns of a page that `entries --table` reads. A cell that would be taken for a
-formula has an apostrophe before it. The living are not hidden: the archive is not
-changed, and nothing is for visitors.
+undone. With --source there are only the entries of that source; N is its number,
+or @ and a token: the first number of the answer that is stored for that token. With
+--csv there are rows for a spreadsheet: the number and the description; with
+--source too the columns of a page that `entries --table` reads. A cell that would
+be taken for a formula has an apostrophe before it. The living are not hidden: the
+archive is not changed, and nothing is for visitors.
 
 Refusals:
+  50 NoSuch        an @ token names nothing
   40 BadStored     what is stored is no record: somebody else wrote FILE
   82 NotAnArchive  there is no FILE, or it is no archive
   95 WriteFailed   standard output could not be written
@@ -49,22 +51,23 @@ Examples:
 pub(crate) const SHOW_ABOUT: &str = "Show records whole";
 
 pub(crate) const SHOW_EXAMPLE: &str = "\
-NO is the number of a record. Each is printed with all that it has, and with what
-names it, its events and citations in full. The number that a merge was answered
-shows who was merged into whom, and the records that it changed as they were
-before. The living are not hidden: the archive is not changed, and nothing is for
-visitors.
+NO is the number of a record, or @ and a token: the first number of the answer that
+is stored for that token. Each is printed with all that it has, and with what names
+it, its events and citations in full. The number that a merge was answered shows
+who was merged into whom, and the records that it changed as they were before. The
+living are not hidden: the archive is not changed, and nothing is for visitors.
 
 Refusals:
-  50 NoSuch        a number names nothing
+  50 NoSuch        a number or an @ token names nothing
   40 BadStored     what is stored is no record: somebody else wrote FILE
   82 NotAnArchive  there is no FILE, or it is no archive
   95 WriteFailed   standard output could not be written
   1, 80, 83
 docs/REFUSALS.md, beside the source of parish, says what to do about each.
 
-Example:
-  parish show ashby.db 17 21";
+Examples:
+  parish show ashby.db 17 21
+  parish show ashby.db @page-12";
 
 pub(crate) const REVIEW_ABOUT: &str = "List what is doubtful";
 

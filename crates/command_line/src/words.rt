@@ -10,14 +10,17 @@ ghost use Rattle.command_line.specs.Meanings.{
   list_named,
   number_of,
   number_up_to,
+  number_word,
   order_named,
   records_named,
   set_named,
 };
+ghost use Rattle.command_line.specs.Meanings as meanings;
 ghost use Rattle.command_line.specs.declared.tasks.ListKind.TheVariants.{Records};
 
 use crate::tasks::{ListKind, OrderName, RecordKind, SetName, SheetKind};
 use clap::ArgMatches;
+use row_references::{NumberWord, token_in};
 use std::alloc::{AllocError, Global};
 
 /// The generations of a pedigree where none are given.
@@ -64,15 +67,25 @@ fn collected<'a>(alloc: Global, words: &[&'a str]) -> Result<Vec<&'a str>, Alloc
     Ok(all)
 }
 
-/// The numbers of words.
-pub(crate) fn numbers_of(alloc: Global, words: &[&str]) -> Result<Vec<u32>, AllocError>
-    ensures { IfOk result (λ numbers. numbers.items ≡ map number_of (map (λ w. w.now) words.now)) }
+/// The number of a record as a word gives it: a number from 1, or `@` and a token. `None`: it gives none.
+pub(crate) fn number_word(alloc: Global, word: &str) -> Result<Option<NumberWord>, AllocError>
+    ensures { IfOk result (λ given. given ≡ number_word word.now) }
 {
-    let mut numbers = Vec::new(alloc);
-    for word in words {
-        numbers.push(number_of(word))?;
+    match token_in(alloc, word.as_bytes())? {
+        Some(token) => Ok(Some(NumberWord::Reference(token))),
+        None => Ok(plain_number(number_of(word))),
     }
-    Ok(numbers)
+}
+
+/// A number that is given as such. `None`: it is 0.
+fn plain_number(number: u32) -> Option<NumberWord>
+    ensures { result ≡ meanings.plain_number number }
+{
+    if number == 0 {
+        None
+    } else {
+        Some(NumberWord::Number(number))
+    }
 }
 
 /// The number that a command is given for an option. `None`: it is given none.

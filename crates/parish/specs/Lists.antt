@@ -6,6 +6,7 @@ use Rattle.command_line.specs.declared.tasks.RecordKind.{RecordKind}
 use Rattle.command_line.specs.declared.tasks.RecordKind.TheVariants as asked
 use Rattle.record_lists.specs.declared.listed.Chosen.{Chosen}
 use Rattle.record_lists.specs.declared.listed.Chosen.TheVariants as chosen
+use Rattle.row_references.specs.declared.words.NumberWord.{NumberWord}
 use Rattle.searching.specs.declared.wanted.Kind.{Kind}
 use Rattle.searching.specs.declared.wanted.Kind.TheVariants as kind
 use Rattle.tasks.specs.declared.task.Task.{Task}
@@ -27,25 +28,25 @@ abbrev pub limit_of : Option ℕ → ℕ
 limit_of None = 18446744073709551615
 limit_of (Some limit) = limit
 
--- the records of a kind, of a source where one is given
-abbrev pub records_chosen : RecordKind → Option ℕ → ℕ → ℕ → Chosen
-records_chosen which source after limit =
+-- the records of a kind
+abbrev pub records_chosen : RecordKind → ℕ → ℕ → Chosen
+records_chosen which after limit =
     chosen.Records (record {
-      wanted = record { kind = Some (kind_of which); source = source; words = [] };
+      wanted = record { kind = Some (kind_of which); source = None; words = [] };
       after = after;
       limit = limit;
       counts_others = false;
     })
 
 -- the slips, or the records of a kind
-abbrev pub chosen_of : ListKind → Option ℕ → ℕ → ℕ → Chosen
-chosen_of listing.Slips source after limit = chosen.Slips after limit
-chosen_of (listing.Records which) source after limit = records_chosen which source after limit
+abbrev pub chosen_of : ListKind → ℕ → ℕ → Chosen
+chosen_of listing.Slips after limit = chosen.Slips after limit
+chosen_of (listing.Records which) after limit = records_chosen which after limit
 
--- as rows of CSV where these are asked for
-abbrev pub list_task : ListKind → Option ℕ → ℕ → Option ℕ → Bool → Task
+-- of a source if one is given, and as rows of CSV if these are asked for
+abbrev pub list_task : ListKind → Option NumberWord → ℕ → Option ℕ → Bool → Task
 list_task which source after limit csv =
-    task.List (record { of = chosen_of which source after (limit_of limit); is_csv = csv })
+    task.List source (record { of = chosen_of which after (limit_of limit); is_csv = csv })
 
 -- the records, of a kind where one is given, with a name in which the words occur: 1,000 without a limit, and how many
 -- are left out
@@ -59,8 +60,8 @@ names_chosen words which limit =
     })
 
 abbrev pub find_task : List (List ℕ) → Option RecordKind → Option ℕ → Bool → Task
-find_task words which limit csv = task.List (record { of = names_chosen words which limit; is_csv = csv })
+find_task words which limit csv = task.List None (record { of = names_chosen words which limit; is_csv = csv })
 
 -- what is doubtful
 abbrev pub review_task : Bool → Task
-review_task csv = task.List (record { of = chosen.Doubts; is_csv = csv })
+review_task csv = task.List None (record { of = chosen.Doubts; is_csv = csv })

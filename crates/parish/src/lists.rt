@@ -5,6 +5,7 @@ ghost use Rattle.parish.specs.Lists as lists;
 
 use command_line::{ListKind, RecordKind};
 use record_lists::{Chosen, Listed};
+use row_references::NumberWord;
 use searching::{Kind, Listing, SearchWords, Wanted};
 use std::alloc::Global;
 use tasks::Task;
@@ -17,7 +18,7 @@ const MOST_FOUND: u32 = 1000;
 pub(crate) fn list_task(
     alloc: Global,
     kind: ListKind,
-    source: Option<u32>,
+    source: Option<NumberWord>,
     after: u32,
     limit: Option<u32>,
     csv: bool,
@@ -25,36 +26,31 @@ pub(crate) fn list_task(
     ensures { result ≡ lists.list_task kind source after limit csv }
 {
     Task::List {
+        source,
         listing: Listed {
-            of: chosen_of(alloc, kind, source, after, limit_of(limit)),
+            of: chosen_of(alloc, kind, after, limit_of(limit)),
             is_csv: csv,
         },
     }
 }
 
 /// The slips, or the records of a kind.
-fn chosen_of(alloc: Global, kind: ListKind, source: Option<u32>, after: u32, limit: usize) -> Chosen
-    ensures { result ≡ lists.chosen_of kind source after limit }
+fn chosen_of(alloc: Global, kind: ListKind, after: u32, limit: usize) -> Chosen
+    ensures { result ≡ lists.chosen_of kind after limit }
 {
     match kind {
         ListKind::Slips => Chosen::Slips { after, limit },
-        ListKind::Records(kind) => records_chosen(alloc, kind, source, after, limit),
+        ListKind::Records(kind) => records_chosen(alloc, kind, after, limit),
     }
 }
 
-/// The records of a kind, of a source where one is given.
-fn records_chosen(
-    alloc: Global,
-    kind: RecordKind,
-    source: Option<u32>,
-    after: u32,
-    limit: usize,
-) -> Chosen
-    ensures { result ≡ lists.records_chosen kind source after limit }
+/// The records of a kind.
+fn records_chosen(alloc: Global, kind: RecordKind, after: u32, limit: usize) -> Chosen
+    ensures { result ≡ lists.records_chosen kind after limit }
 {
     let wanted = Wanted {
         kind: Some(kind_of(kind)),
-        source,
+        source: None,
         words: SearchWords::new(alloc),
     };
     Chosen::Records {
@@ -92,6 +88,7 @@ pub(crate) fn find_task(
         counts_others: true,
     };
     Task::List {
+        source: None,
         listing: Listed {
             of: Chosen::Records { listing },
             is_csv: csv,
@@ -104,6 +101,7 @@ pub(crate) fn review_task(csv: bool) -> Task
     ensures { result ≡ lists.review_task csv }
 {
     Task::List {
+        source: None,
         listing: Listed {
             of: Chosen::Doubts,
             is_csv: csv,

@@ -70,8 +70,8 @@ fn is_printable(byte: u8) -> bool
     b'!' <= byte && byte <= b'~'
 }
 
-/// The token of a reference. `None`: the field is no reference. Refused only if out of memory.
-pub(crate) fn token_in(alloc: Global, field: &[u8]) -> Result<Option<Token>, AllocError>
+/// The token of a reference: of `@` and a token. `None`: the field is no reference. Refused only if out of memory.
+pub fn token_in(alloc: Global, field: &[u8]) -> Result<Option<Token>, AllocError>
     ensures { IfOk result (λ found. MatchOption found (token_in field.now ≡ None)
         (λ token. token_in field.now ≡ Some token)) }
 {

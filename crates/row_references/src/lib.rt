@@ -11,6 +11,9 @@ mod fields;
 pub mod laws;
 mod naming;
 mod numbering;
+mod words;
 
+pub use fields::token_in;
 pub use naming::has_references;
 pub use numbering::{numbered, with_any_numbers};
+pub use words::{NumberWord, number_in};

@@ -34,8 +34,7 @@ use Rattle.archive_output.specs.Exporting.{IsPart, export_text}
 use Rattle.archive_output.specs.Reading.{OnOpen, OnlyReads, OnlyReadsAny}
 use Rattle.archive_tables.specs.Checks.{EndsChecking}
 use Rattle.archive_tables.specs.Ends.{EndsWriting, OnRead}
-use Rattle.archive_tables.specs.Texts.{shown_text}
-use Rattle.record_lists.specs.Texts.{list_text}
+use Rattle.archive_tables.specs.Texts.{list_of, shown_text}
 use Rattle.archive_tables.specs.Entering.{EntersPage}
 use Rattle.archive_state.specs.Content.{Content}
 use Rattle.archive_state.specs.Looks.{is_failure}
@@ -359,7 +358,7 @@ module _ {S R W F : Type 0} (g : Ghosts S) (reader : read.Ghosts R) (reads : dev
   Does task.Audit outcome shown = Audits outcome × IsUnread × (shown ≡ None)
   Does (task.Days first last words) outcome shown = Ended outcome (ListsDays words first last) × IsUnread × IsQuiet
       × (shown ≡ None)
-  Does (task.List listing) outcome shown = Ended outcome (PrintsText (λ c. Some (list_text listing c))) × IsUnread
+  Does (task.List source listing) outcome shown = Ended outcome (PrintsText (list_of source listing)) × IsUnread
       × IsQuiet × (shown ≡ None)
   Does (task.Show numbers) outcome shown = Ended outcome (PrintsText (λ c. shown_text c numbers.items)) × IsUnread
       × IsQuiet × (shown ≡ None)

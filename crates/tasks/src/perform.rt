@@ -142,7 +142,10 @@ fn do_task<S: Alter, C: Clock, R: Read + Device, W: Write + Device, F: FaultStre
             plain(write_days(alloc, archive, first, last, words, output)),
             None,
         ),
-        Task::List { listing } => (plain(write_list(alloc, archive, &listing, output)), None),
+        Task::List { source, listing } => (
+            plain(write_list(alloc, archive, &source, listing, output)),
+            None,
+        ),
         Task::Show { numbers } => (plain(write_shown(alloc, archive, &numbers, output)), None),
     }
 }

@@ -5,6 +5,7 @@ use character_sets::CharacterSet;
 use page_entries::DateOrder;
 use receipts::Token;
 use record_lists::Listed;
+use row_references::NumberWord;
 
 /// How a table is read.
 #[derive(Clone, Copy, Debug)]
@@ -74,12 +75,13 @@ pub enum Task {
         last: i32,
         words: bool,
     },
-    /// What is listed, as lines or as rows of CSV, on the output.
+    /// What is listed, of a source if one is given, as lines or as rows of CSV, on the output.
     List {
+        source: Option<NumberWord>,
         listing: Listed,
     },
     /// The records of these numbers, each whole, on the output.
     Show {
-        numbers: Vec<u32>,
+        numbers: Vec<NumberWord>,
     },
 }

@@ -1,5 +1,5 @@
 use Rattle.std.proofs.Common.{◌≡◌, ◌∙◌, ℕ, List, ap, sym}
-use Rattle.std.specs.Prelude.{Option, option_map, Some}
+use Rattle.std.specs.Prelude.{Option, option_map}
 use Rattle.sqlite.specs.Held.{state}
 use Rattle.archive_state.specs.Content.{Content}
 use Rattle.archive_state.specs.Looks.{Looked}
@@ -8,8 +8,7 @@ use Rattle.store_tables.proofs.Queries.{only_committed}
 use Rattle.archive_output.proofs.Calls.{aside_stays, moved, reads_of}
 use Rattle.archive_output.proofs.Exported.{stays_viewed}
 use Rattle.archive_tables.specs.Ends.{EndsWriting, OnRead}
-use Rattle.record_lists.specs.Texts.{list_text}
-use Rattle.archive_tables.specs.Texts.{items_of}
+use Rattle.archive_tables.specs.Texts.{items_of, list_of}
 use Rattle.archive_tables.proofs.Looked.{ended_by}
 use Rattle.archive_tables.proofs.writing.write_list.Goals as goal
 
@@ -20,7 +19,7 @@ returns-clause-ended g c =
     let last = c.listed_bytes-text.new.view in
     let before = g.W.Write.contents c.args.writer.now in
     let after = g.W.Write.contents c.write_found.new.writer in
-    let right : Content → Option (List ℕ) = λ k. Some (list_text c.args.listed.now k) in
+    let right : Content → Option (List ℕ) = list_of c.args.source.now c.args.listed in
     moved g.S.Store was.conn first.conn last.conn c.put_back.new.self.conn c.set_aside-import.ensures.conn
     c.put_back.ensures.conn (λ old new. OnRead old new (λ of. EndsWriting c.write_found.result before after (right of)))
     (ended_by items_of c.listed_bytes-text.result right (state g.S.Store first.conn) (state g.S.Store last.conn)
@@ -39,7 +38,7 @@ returns-clause-reads g c =
     let first = c.set_aside-import.new.self in
     let last = c.listed_bytes-text.new.view in
     let new = c.put_back.new.self in
-    let right : Content → Option (List ℕ) = λ k. Some (list_text c.args.listed.now k) in
+    let right : Content → Option (List ℕ) = list_of c.args.source.now c.args.listed in
     let same = c.put_back.ensures.back ∙ c.set_aside-import.ensures.aside in
     let stays = aside_stays g.S.Store was.conn first.conn last.conn new.conn last.is_lost new.is_lost
     c.set_aside-import.ensures.conn c.put_back.ensures.conn c.put_back.ensures.lost

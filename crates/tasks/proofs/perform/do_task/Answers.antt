@@ -1,8 +1,9 @@
-use Rattle.std.proofs.Common.{ℕ, List, SFits, refl, rules, subst, w32}
+use Rattle.std.proofs.Common.{List, SFits, refl, rules, subst, w32}
 use Rattle.std.proofs.lemmas.Int.{to_z-of_z}
 use Rattle.sqlite.specs.Held.{state}
 use Rattle.archive_tables.specs.Ends.{EndsWriting, OnRead}
 use Rattle.archive_tables.specs.Texts.{shown_text}
+use Rattle.row_references.specs.declared.words.NumberWord.{NumberWord}
 use Rattle.tasks.proofs.Aloud.{says_far}
 use Rattle.tasks.proofs.Blamed.{blamed_by}
 use Rattle.tasks.proofs.Days.{lists_on, prints_on, publishes_on, publishes_plain_on, shelves_on}
@@ -233,7 +234,7 @@ returns-in-List g c =
 pub returns-in-Show : goal.returns-in-Show
 returns-in-Show g c =
     let did = c.write_shown.ensures in
-    let ended = subst (λ (ns : List ℕ). OnRead (state g.S.Store c.args.archive.now.conn)
+    let ended = subst (λ (ns : List NumberWord). OnRead (state g.S.Store c.args.archive.now.conn)
     (state g.S.Store c.write_shown.new.archive.conn) (λ k. EndsWriting c.write_shown.result
     (g.W.Write.contents c.args.output.now) (g.W.Write.contents c.write_shown.new.writer) (shown_text k ns)))
     c.deref.ensures.value did.ended in

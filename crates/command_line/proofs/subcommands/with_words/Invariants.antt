@@ -3,7 +3,7 @@ use Rattle.std.specs.Prelude.{fold}
 use Rattle.clap.specs.Words.{app_of, with_rule}
 use Rattle.clap.specs.declared.builder.command.Command.TheViews.{out-Command}
 use Rattle.command_line.specs.Described.{rule_described}
-use Rattle.command_line.proofs.commands.with_words.Given as goal
+use Rattle.command_line.proofs.subcommands.with_words.Given as goal
 
 -- the words so far and those that are left are all of them
 abbrev pub invariant-loop-word : goal.invariant-loop-word

@@ -2,7 +2,7 @@ use Rattle.std.proofs.Common.{◌∙◌, ap}
 use Rattle.clap.specs.Words.{app_of, with_subcommand}
 use Rattle.command_line.specs.Described.{shape_described}
 use Rattle.command_line.proofs.Telling.{one_more}
-use Rattle.command_line.proofs.commands.with_commands.Goals as goal
+use Rattle.command_line.proofs.subcommands.with_commands.Goals as goal
 
 pub loop-row-preserved : goal.loop-row-preserved
 loop-row-preserved c =

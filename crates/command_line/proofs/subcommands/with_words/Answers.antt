@@ -2,7 +2,7 @@ use Rattle.std.proofs.Common.{◌∙◌, ap}
 use Rattle.clap.specs.Words.{app_of, with_rule}
 use Rattle.command_line.specs.Described.{rule_described}
 use Rattle.command_line.proofs.Telling.{one_more, still}
-use Rattle.command_line.proofs.commands.with_words.Goals as goal
+use Rattle.command_line.proofs.subcommands.with_words.Goals as goal
 
 pub loop-word-preserved : goal.loop-word-preserved
 loop-word-preserved c = record {
