@@ -5,7 +5,7 @@ use record_text::{Refusal, RefusalKind, Unit};
 use row_words::{Answer, number, optional_number, word};
 
 /// Every refusal.
-const KINDS: [RefusalKind; 48] = [
+const KINDS: [RefusalKind; 51] = [
     RefusalKind::OutOfMemory,
     RefusalKind::NotUtf8,
     RefusalKind::BadLevel,
