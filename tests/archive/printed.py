@@ -38,6 +38,9 @@ REFUSALS = """\
 61 NoSuchMention
 62 NotOfKind
 63 Full
+64 NoSuchField
+65 NotMember
+66 StillCarried
 70 ExportTooLarge
 80 Storage
 81 Reopen
