@@ -35,13 +35,13 @@ LINK = "INSERT OR IGNORE INTO link (id) VALUES (?1)"
 SOUGHT = "INSERT INTO sought (no, text, dst) VALUES (?1, ?2, ?3)"
 VERBS = (
     "person", "name", "sex", "family", "child", "event", "amend", "participant", "place", "repo", "source", "citation",
-    "entry", "link", "unlink", "remove",
+    "entry", "link", "unlink", "remove", "partner", "unpartner",
 )
 
 
 def row(verb, k, persons):
     """The fields of the k-th row of a verb. It changes no record that another row of this verb changes."""
-    husband, wife, child = ((k + n) % persons + 1 for n in range(3))
+    husband, wife, child, other = ((k + n) % persons + 1 for n in range(4))
     family, event = persons + 1 + k, persons + 1 + MANY + k
     source, unnamed = persons + 1 + 2 * MANY, persons + 2 + 2 * MANY + k
     entry, linked = persons + 2 + 3 * MANY + k, persons + 2 + 4 * MANY + k
@@ -78,6 +78,10 @@ def row(verb, k, persons):
             return ("unlink", linked, "2")
         case "remove":
             return ("remove", unnamed)
+        case "partner":
+            return ("partner", family, "husband", other)
+        case "unpartner":
+            return ("unpartner", family, wife)
 
 
 def entry_row(source, page, k):

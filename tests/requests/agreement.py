@@ -92,7 +92,7 @@ class Requests(Rows):
             made = [f"t{place}", *self.file()]
         else:
             made = [f"t{place}", *self.good()]
-        if made[1] != "child":  # it may be refused, and then its token is not kept
+        if made[1] not in ("child", "partner"):  # it may be refused, and then its token is not kept
             self.given.append(made)
         return made
 

@@ -22,6 +22,7 @@ VALUES = ["", "", "at home", "two\nlines"]
 TITLES = ["Ashby register", "Wills", "", 'The "old" book, vol. 1', "two\nlines", " "]
 SHORT = ["", "", "Rev. Lee", "MS 4", "a,b"]  # authors, publishers, call numbers and pages
 PAGES = ["f. 3", "f. 3", "f. 4", "", "MS 4", "two\nlines", "p. \u00e9, verso"]  # of registers
+PARTNERSHIPS = ["husband", "wife"]
 REASONS = ["same farm", "same name, same year", "?", " ", 'says "of the Mill"\nhimself']
 ROLES_OF = {
     "BAPTISM": ["child", "father", "mother", "godparent"],
@@ -36,7 +37,8 @@ PLACES = ["Kent", "Ashby", "Mill Lane, Ashby", "\u00e9, \u4e2d", "two\nlines", "
 DEEPEST = 8  # places within each other, so that no path passes the limits
 
 # The kinds of the fields of each verb: number, text, sex, tag, date, quality, place's name, kind of an entry, item,
-# place of a mention, or reason. Behind those of an entry come a role and a text for each mention.
+# place of a mention or of a participant, reason, or role of a partner. Behind those of an entry come a role and a text
+# for each mention.
 KINDS = {
     "person": "TS",
     "name": "NT",
@@ -56,8 +58,15 @@ KINDS = {
     "merge": "NN",
     "undo": "N",
     "remove": "N",
+    "partner": "NHN",
+    "unpartner": "NN",
+    "unchild": "NN",
+    "unparticipant": "NM",
 }
 OF_MENTION = "RT"
+OF_MEMBERS = ("child", "partner", "unpartner", "unchild", "unparticipant")
+# Those that change a record which may have had the new value before.
+BACK = ("sex", "amend", "link", "unlink", "participant", *OF_MEMBERS)
 ODD = {
     "N": ["0", "00000000001", str(LAST + 1), "+1", "1a", " 1", str(LAST), "1000", "1000", "1000"],
     "T": ["a\rb", "a\0b"],
@@ -71,6 +80,7 @@ ODD = {
     "M": ["0", "00000000001", "", "-1", "101", str(LAST), str(LAST + 1)],
     "R": ["", "Child", "widow", "father of groom", "a\rb", "a\0b"],
     "W": ["", "", "a\rb", "a\0b"],
+    "H": ["", "Wife", "husband ", "HUSB", "child", "M"],
 }
 ODD_VERBS = [
     "frob", "", "Person", "person ", "personal", "repository", "removed", "Entry", "links", "entries", "merged", "Undo"
@@ -101,13 +111,15 @@ class Rows:
         self.links = {}  # for each mention of an entry, the person that it is linked to, or none
         self.names = {}  # the numbers that each record names
         self.members = {}  # the partners and the children of each family
+        self.parties = {}  # the owner of each event, and behind it the participants
         self.slips = {}  # what each merge changed
         self.stamps = {}  # which change of each record was the last
         self.changed = 0
         self.next = 1
         self.given = []
         self.doubled = set()  # the fields of entries that were there already
-        self.refused = {}  # the tokens of what was refused but may be accepted later: removals and doubled entries
+        self.refused = {}  # the tokens of what was refused but may be accepted later, and its verb and fields
+        self.is_good = True  # whether the last row that was to be accepted is
 
     def chance(self, share):
         return self.rng.random() < share
@@ -142,6 +154,7 @@ class Rows:
     def take_out(self, number):
         del self.names[number], self.stamps[number]
         self.members.pop(number, None)
+        self.parties.pop(number, None)
         self.keys.pop(number, None)
         self.links.pop(number, None)
         for numbers in self.kinds().values():
@@ -163,6 +176,30 @@ class Rows:
 
     def child(self):
         return [self.of(self.families), self.of(self.people)]
+
+    def partner(self):
+        return [self.of(self.families), self.rng.choice(PARTNERSHIPS), self.of(self.people)]
+
+    def with_member(self, which):
+        """The families that have a partner (0) or a child (1)."""
+        return [number for number in self.families if self.members[number][which]]
+
+    def member(self, which):
+        number = self.rng.choice(self.with_member(which))
+        return [self.spelt(number), self.of(sorted(self.members[number][which]))]
+
+    def unpartner(self):
+        return self.member(0)
+
+    def unchild(self):
+        return self.member(1)
+
+    def with_participant(self):
+        return [number for number in self.events if len(self.parties[number]) > 1]
+
+    def unparticipant(self):
+        number = self.rng.choice(self.with_participant())
+        return [self.spelt(number), self.spelt(self.rng.randrange(1, len(self.parties[number])))]
 
     def event(self):
         kinds = [(self.people, PERSON_TAGS)] + [(self.families, FAMILY_TAGS)] * bool(self.families)
@@ -248,12 +285,13 @@ class Rows:
 
     def as_is(self, number):
         """What is kept of a record."""
-        links, members = self.links.get(number), self.members.get(number)
+        links, members, parties = self.links.get(number), self.members.get(number), self.parties.get(number)
         return (
             self.stamps[number],
             set(self.names[number]),
             None if links is None else dict(links),
             None if members is None else tuple(set(some) for some in members),
+            None if parties is None else list(parties),
         )
 
     def note_merge(self, keep, gone):
@@ -268,6 +306,8 @@ class Rows:
                 self.members[number] = tuple(
                     {keep if one == gone else one for one in some} for some in self.members[number]
                 )
+            if number in self.parties:
+                self.parties[number] = [keep if one == gone else one for one in self.parties[number]]
         self.take_out(gone)
         for number in (keep, *changed):
             self.touch(number)
@@ -279,13 +319,15 @@ class Rows:
         if not slip.is_open or not self.has_new(slip):
             return
         slip.is_open = False
-        for number, (stamp, named, links, members) in slip.old.items():
+        for number, (stamp, named, links, members, parties) in slip.old.items():
             self.touch(number, stamp)
             self.names[number] = named
             if links is not None:
                 self.links[number] = links
             if members is not None:
                 self.members[number] = members
+            if parties is not None:
+                self.parties[number] = parties
             if slip.new[number] is None:
                 self.people.append(number)
 
@@ -298,9 +340,15 @@ class Rows:
         if self.people:
             found += ["family"] * 2 + ["event"] * 3 + ["name", "sex"]
         if self.families and self.people:
-            found += ["child"] * 2
+            found += ["child"] * 2 + ["partner"]
+        if self.removes and self.with_member(0):
+            found += ["unpartner"]
+        if self.removes and self.with_member(1):
+            found += ["unchild"]
         if self.events:
             found += ["amend"] + ["participant"] * 2 * bool(self.people)
+        if self.removes and self.with_participant():
+            found += ["unparticipant"]
         if self.sources and (self.people or self.families or self.events):
             found += ["citation"] * 3
         if self.sources:
@@ -325,6 +373,8 @@ class Rows:
             self.touch(self.next)
             if verb == "family":
                 self.members[self.next] = (set(named), set())
+            if verb == "event":
+                self.parties[self.next] = [int(fields[0])]
             if verb == "entry":
                 self.keys[self.next] = key_of(fields)
                 self.links[self.next] = dict.fromkeys(range(1, mention_count(fields) + 1))
@@ -341,14 +391,20 @@ class Rows:
 
     def note_change(self, verb, number, fields, named):
         """Keeps what a record names after a command that changes it: another place or person goes with the new one."""
-        if verb == "child" and named & set.union(*self.members[number]):
-            return
         before = self.names[number]
         self.touch(number)
-        if verb in ("sex", "amend", "link", "unlink"):
+        if verb in BACK:
             self.stamps[number] = -self.changed
-        if verb == "child":
-            self.members[number][1].update(named - {number})
+        if verb in ("child", "partner"):
+            self.members[number][verb == "child"].update(named - {number})
+        if verb == "participant":
+            self.parties[number].append(int(fields[1]))
+        if verb in ("unpartner", "unchild"):
+            self.members[number][verb == "unchild"].discard(int(fields[1]))
+            before, named = set.union(*self.members[number]), set()
+        elif verb == "unparticipant":
+            gone = self.parties[number].pop(int(fields[1]))
+            before, named = before - ({gone} - set(self.parties[number])), set()
         if verb in ("link", "unlink"):
             self.links[number][int(fields[1])] = int(fields[2]) if verb == "link" else None
             named = {one for one in self.links[number].values() if one is not None}
@@ -358,11 +414,25 @@ class Rows:
         self.names[number] = (before | named) - {number}
 
     def good(self):
-        """A verb and its fields that are accepted, but for a child who is in the family already."""
+        """A verb and its fields that are accepted, but for a child or a partner who is in the family already."""
         verb = self.rng.choice(self.verbs())
         fields = getattr(self, verb)()
-        self.note(verb, fields)
+        self.is_good = verb not in OF_MEMBERS or self.fits(verb, fields)
+        if self.is_good:
+            self.note(verb, fields)
         return [verb, *fields]
+
+    def fits(self, verb, fields):
+        """Whether a well-formed row on members or participants is accepted."""
+        number, last = int(fields[0]), int(fields[-1])
+        if verb == "unparticipant":
+            return 0 < last < len(self.parties.get(number, ()))
+        if number not in self.members or last not in self.people:
+            return False
+        partners, children = self.members[number]
+        if verb in ("child", "partner"):
+            return last not in partners | children
+        return last in (partners if verb == "unpartner" else children)
 
     def odd(self):
         """A row that is refused: an unknown verb, a field more or less, one person twice, a call number alone, what is
@@ -386,6 +456,8 @@ class Rows:
             return [verb, self.of(self.refused_slips() or [1000])]
         if verb == "entry" and form < 0.7:
             return [verb, *self.odd_entry(fields)]
+        if verb in ("unpartner", "unchild", "unparticipant") and form < 0.5:
+            return [verb, fields[0], self.no_member(verb, int(fields[0]))]
         if verb in ("link", "unlink") and form < 0.5:
             return [
                 verb,
@@ -397,6 +469,13 @@ class Rows:
         at = self.rng.randrange(len(fields))
         fields[at] = self.wrong(verb, kinds[at], at)
         return [verb, *fields]
+
+    def no_member(self, verb, number):
+        """A person who is not that in the family, or the place of no participant of the event."""
+        if verb == "unparticipant":
+            return self.spelt(len(self.parties[number]) + self.rng.choice([0, 0, 1, 9]))
+        members = self.members[number][verb == "unchild"]
+        return self.of([one for one in self.people if one not in members] or [1000])
 
     def odd_merge(self, fields):
         """One person twice, or two of one family of whom one is a partner."""
@@ -463,9 +542,9 @@ class Rows:
             others = self.families + self.events + self.entries + list(self.slips)
         elif verb == "undo":
             others = list(self.names)
-        elif verb == "child" and at == 0:
+        elif verb in ("child", "partner", "unpartner", "unchild") and at == 0:
             others = self.people + self.events
-        elif verb in ("amend", "participant") and at == 0:
+        elif verb in ("amend", "participant", "unparticipant") and at == 0:
             others = self.people + self.families
         else:
             others = self.families + self.events + self.entries
@@ -486,18 +565,24 @@ class Rows:
                 self.refused[made[0]] = made[1:]
         else:
             made = [f"t{place}", *self.good()]
+            if not self.is_good:
+                self.refused[made[0]] = made[1:]
         self.given.append(made)
         return made
 
     def may_be_accepted(self, verb, *fields):
-        """Whether a row that is refused is a removal that is well formed, or an entry that is there already."""
-        is_removal = verb == "remove" and len(fields) == 1 and re.fullmatch("[0-9]{1,10}", fields[0])
-        return bool(is_removal) or (verb == "entry" and fields in self.doubled)
+        """Whether a row that is refused is a removal or on members, and well formed, or an entry that is there
+        already."""
+        if verb == "entry":
+            return fields in self.doubled
+        return verb in ("remove", *OF_MEMBERS) and is_well_formed(verb, fields)
 
     def is_accepted(self, verb, *fields):
         """Whether such a row is accepted now."""
         if verb == "remove":
             return int(fields[0]) in self.names and not self.is_named(int(fields[0]))
+        if verb in OF_MEMBERS:
+            return self.fits(verb, fields)
         source, *_ = key = key_of(fields)
         has_place = fields[5] == "" or int(fields[5]) in self.places
         return source in self.sources and has_place and key not in self.keys.values()
@@ -509,6 +594,14 @@ class Rows:
             del self.refused[given[0]]
             self.note(refused[0], refused[1:])
         return given
+
+
+def is_well_formed(verb, fields):
+    """Whether the fields of a verb without texts are of their kinds."""
+    return len(fields) == len(KINDS[verb]) and all(
+        one in PARTNERSHIPS if kind == "H" else re.fullmatch("[0-9]{1,10}", one)
+        for one, kind in zip(fields, KINDS[verb])
+    )
 
 
 def kinds_of(verb, fields):

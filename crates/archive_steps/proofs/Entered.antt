@@ -61,7 +61,7 @@ use Rattle.archive_steps.specs.Steps.{entry_of, has_mention, linked, relinked, w
 use Rattle.archive_steps.specs.Words.{IsUtf8Entry, IsUtf8Mention}
 use Rattle.archive_steps.proofs.Fitting.{PlaceAt, IsFresh, fresh_at_next, not_fresh, none_at_next, over}
 use Rattle.command_checks.specs.Applied.{Plans}
-use Rattle.archive_steps.proofs.Keeping.{IsFit}
+use Rattle.record_changes.proofs.Keeping.{IsFit}
 use Rattle.archive_steps.proofs.Same.{put_same}
 use Rattle.archive_steps.proofs.Worded.{maybe_date, text_found}
 use Rattle.merging.proofs.Alike.{entries_alike}

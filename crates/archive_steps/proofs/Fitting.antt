@@ -95,7 +95,7 @@ use Rattle.archive_steps.specs.Steps.{
 use Rattle.command_checks.specs.declared.looks.Owner.{Owner}
 use Rattle.command_checks.specs.declared.looks.Owner.TheVariants as owner
 use Rattle.archive_state.proofs.Keeping.{IsAlike}
-use Rattle.archive_steps.proofs.Keeping.{IsFit}
+use Rattle.record_changes.proofs.Keeping.{IsFit}
 use Rattle.merging.proofs.Alike.{events_alike, families_alike, persons_alike}
 use Rattle.list_laws.proofs.Numbers.{other_way}
 use Rattle.list_laws.proofs.Lists.{any_mapped}

@@ -21,7 +21,7 @@ use Rattle.std.proofs.Common.{
   subst,
   arith,
 }
-use Rattle.std.specs.Prelude.{Option, Some, None, Result, Ok, Err, if◌then◌else◌, not, ◌||◌, option_map}
+use Rattle.std.specs.Prelude.{Option, Some, None, Result, Ok, Err, IfOk, if◌then◌else◌, not, ◌||◌, option_map}
 use Rattle.std.proofs.lemmas.Bool.Decides.{nat_tests}
 use Rattle.std.specs.FinMap.{get, insert, remove}
 use Rattle.record_text.specs.declared.refusal.RefusalKind.{RefusalKind}
@@ -71,6 +71,9 @@ use Rattle.command_checks.specs.Checks.{
 }
 use Rattle.command_checks.specs.Entries.{entry_at, key_is_free, not_empty, reason_in, texts_fit}
 use Rattle.command_checks.proofs.Likes.{entry_is_found}
+use Rattle.member_changes.specs.Steps.{partner, unchild, unparticipant, unpartner}
+use Rattle.member_changes.proofs.Stepping.{keeps_sound, leaves_all_else}
+use Rattle.record_changes.specs.Laws.{ChangesOnly}
 use Rattle.merging.specs.Steps.{RowStep, merge_step, undo_step}
 use Rattle.merging.proofs.Drawing.{merge_draws, merge_uses_none, undo_draws, undo_uses_none}
 use Rattle.merging.proofs.Stepping.{merged_by, merged_sound, undone_by, undone_sound}
@@ -109,7 +112,7 @@ use Rattle.archive_steps.specs.Words.{IsUtf8Date, IsUtf8Entry, IsUtf8Row}
 use Rattle.command_checks.specs.declared.kinds.Demand.TheVariants as demand
 use Rattle.command_checks.specs.declared.looks.Owner.{Owner}
 use Rattle.archive_state.proofs.Putting.{put_elsewhere, put_here}
-use Rattle.archive_steps.proofs.Keeping.{IsFit, put_keeps}
+use Rattle.record_changes.proofs.Keeping.{IsFit, put_keeps}
 use Rattle.command_checks.proofs.Found.{
   person_found,
   family_found,
@@ -361,6 +364,12 @@ undo_follows c n = elim (undo_step c n) as (λ s. undo_step c n ≡ s → Follow
   | Err k ↦ λ e. tt
 ] refl
 
+-- one record changes, and all else is as it was
+changes_follow : (c : Content) (n : ℕ) (step : RowStep) → IfOk step (λ done. IsSound c → IsSound done.0)
+    → IfOk step (ChangesOnly c n) → Follows (Unit {0}) c step
+changes_follow c n (Ok done) sound only = (only.receipts, only.draws, only.again, (λ w before. sound before))
+changes_follow c n (Err e) sound only = tt
+
 -- ---- each command
 pub row_follows : (c : Content) (k : RowCommand) → Follows (IsUtf8Row k) c (row_step c k)
 row_follows c (row_command.Person name sex) =
@@ -483,3 +492,15 @@ row_follows c (row_command.Remove number) =
     then_follows (Unit {0}) c (record_at c number) _
     (λ u there. need_follows (Unit {0}) c (not (is_named c number)) StillNamed _ (λ alone.
     removes_follows (Unit {0}) c number (not-true (is_named c number) alone)))
+row_follows c (row_command.Partner family partnership person) =
+    changes_follow c family (partner c family partnership person) ((keeps_sound c family).0 partnership person)
+    ((leaves_all_else c family).0 partnership person)
+row_follows c (row_command.Unpartner family person) =
+    changes_follow c family (unpartner c family person) ((keeps_sound c family).1 person)
+    ((leaves_all_else c family).1 person)
+row_follows c (row_command.Unchild family person) =
+    changes_follow c family (unchild c family person) ((keeps_sound c family).2 person)
+    ((leaves_all_else c family).2 person)
+row_follows c (row_command.Unparticipant event place) =
+    changes_follow c event (unparticipant c event place) ((keeps_sound c event).3 place)
+    ((leaves_all_else c event).3 place)

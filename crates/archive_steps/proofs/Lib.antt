@@ -2,7 +2,6 @@ mod Entered
 pub mod Exactness
 mod Fitting
 pub mod Following
-mod Keeping
 mod Named
 mod Placed
 pub mod Same

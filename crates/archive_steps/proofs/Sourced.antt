@@ -23,7 +23,7 @@ use Rattle.commands.specs.Rows.{and_then}
 use Rattle.command_checks.specs.Checks.{need, text_in, or_no_text, maybe_text_in}
 use Rattle.archive_steps.specs.Steps.{plain_repo, plain_source, plain_citation, lacks_repo, given_source}
 use Rattle.archive_steps.proofs.Fitting.{fresh_at_next, anew}
-use Rattle.archive_steps.proofs.Keeping.{IsFit}
+use Rattle.record_changes.proofs.Keeping.{IsFit}
 use Rattle.archive_steps.proofs.Worded.{text_found}
 use Rattle.commands.proofs.Chains.{both_answered}
 use Rattle.record_shapes.proofs.Each.{each_both}

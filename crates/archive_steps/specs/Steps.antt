@@ -71,6 +71,7 @@ use Rattle.command_checks.specs.Checks.{
 }
 use Rattle.command_checks.specs.Entries.{texts_fit, reason_in, mentions_in, entry_at, key_is_free}
 use Rattle.command_checks.specs.declared.kinds.Demand.TheVariants as demand
+use Rattle.member_changes.specs.Steps.{partner, unchild, unparticipant, unpartner}
 use Rattle.merging.specs.Steps.{RowStep, merge_step, undo_step}
 
 -- a new record at the next number, where one is left
@@ -374,3 +375,7 @@ row_step c (row_command.Unlink entry mention) = unlink_mention c entry mention
 row_step c (row_command.Merge keep gone) = merge_step c keep gone
 row_step c (row_command.Undo slip) = undo_step c slip
 row_step c (row_command.Remove number) = remove_record c number
+row_step c (row_command.Partner family partnership person) = partner c family partnership person
+row_step c (row_command.Unpartner family person) = unpartner c family person
+row_step c (row_command.Unchild family person) = unchild c family person
+row_step c (row_command.Unparticipant event place) = unparticipant c event place

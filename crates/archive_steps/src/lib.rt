@@ -1,8 +1,8 @@
 //! What each command of one row makes of an archive: what it looks at over a view, in which order it is refused, and
 //! which records it puts.
 //!
-//! It uses `archive_state` and `archive_state` for the view of an archive and for what changes, `records` for what is
-//! in it, and `commands` for the commands.
+//! It uses `archive_state` for the view of an archive and for what changes, `commands` for the commands, and
+//! `member_changes` and `merging` for some of them.
 //!
 //! Callers may rely on: `decide_row` over any view answers the changes that, made, are the step of the definitions, or
 //! its refusal, and changes nothing itself; and the changes are only of what differs.

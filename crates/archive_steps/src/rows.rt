@@ -16,6 +16,7 @@ use crate::removal::remove_record;
 use crate::sources::{new_citation, new_repo, new_source};
 use archive_state::{Changes, View};
 use commands::RowCommand;
+use member_changes::{partner, unchild, unparticipant, unpartner};
 use merging::decide_merge::merge;
 use merging::decide_undo::undo;
 use record_text::RefusalKind;
@@ -81,5 +82,13 @@ pub fn decide_row<V: View>(
         RowCommand::Merge { keep, gone } => merge(alloc, view, *keep, *gone),
         RowCommand::Undo { slip } => undo(alloc, view, *slip),
         RowCommand::Remove { number } => remove_record(alloc, view, *number),
+        RowCommand::Partner {
+            family,
+            partnership,
+            person,
+        } => partner(alloc, view, *family, *partnership, *person),
+        RowCommand::Unpartner { family, person } => unpartner(alloc, view, *family, *person),
+        RowCommand::Unchild { family, person } => unchild(alloc, view, *family, *person),
+        RowCommand::Unparticipant { event, place } => unparticipant(alloc, view, *event, *place),
     }
 }

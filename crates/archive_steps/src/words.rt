@@ -59,7 +59,11 @@ pub fn tell_row(row: &RowCommand)
         | RowCommand::Unlink { .. }
         | RowCommand::Merge { .. }
         | RowCommand::Undo { .. }
-        | RowCommand::Remove { .. } => {}
+        | RowCommand::Remove { .. }
+        | RowCommand::Partner { .. }
+        | RowCommand::Unpartner { .. }
+        | RowCommand::Unchild { .. }
+        | RowCommand::Unparticipant { .. } => {}
     }
 }
 

@@ -42,6 +42,9 @@ Verbs and their fields; one with ? may be empty:
   unlink,entry,mention
   merge,person that stays,person that is gone
   undo,slip                        remove,number
+  partner,family,role,person       (the role is husband or wife)
+  unpartner,family,person          unchild,family,person
+  unparticipant,event,participant
 
 Refusals of a row:
   50 NoSuch              a number or an @ token names nothing
@@ -58,6 +61,8 @@ Refusals of a row:
   61 NoSuchMention       the entry has not so many mentions
   62 NotOfKind           a tag that is not of the owner, a role not of the kind
   63 Full                no number is left
+  64 NoSuchField         the event has not so many participants
+  65 NotMember           the person is not partner, or not child, there
   90 BadRow              a field that is not UTF-8 or not of its type
   91 UnknownVerb         no such verb
   92 FieldCount          another number of fields than the verb has

@@ -29,14 +29,15 @@ use Rattle.csv.specs.declared.parser.State.TheVariants as st
 use Rattle.csv.proofs.RoundTrip.{read-write-many}
 use Rattle.record_text.specs.declared.refusal.RefusalKind.{RefusalKind}
 use Rattle.record_text.specs.declared.refusal.RefusalKind.TheVariants.{BadRow}
-use Rattle.record_fields.specs.Words.{entry_kind_word, quality_word, sex_word}
+use Rattle.record_fields.specs.Words.{entry_kind_word, partnership_word, quality_word, sex_word}
 use Rattle.record_fields.specs.declared.entry_words.EntryKind.{EntryKind}
 use Rattle.record_fields.specs.declared.item.Item.{Item}
+use Rattle.record_fields.specs.declared.words.Partnership.{Partnership}
 use Rattle.record_fields.specs.declared.words.Quality.{Quality}
 use Rattle.record_fields.specs.declared.words.Quality.TheVariants as quality
 use Rattle.record_fields.specs.declared.words.Sex.{Sex}
 use Rattle.record_fields.specs.declared.words.Sex.TheVariants as sex
-use Rattle.record_fields.proofs.Worded.{entry_kind_back, quality_back, sex_back}
+use Rattle.record_fields.proofs.Worded.{entry_kind_back, partnership_back, quality_back, sex_back}
 use Rattle.csv.specs.Writing.{default_writer, row_text}
 use Rattle.commands.specs.Bytes.{entry_fields, or_empty, row_of, spelt}
 use Rattle.commands.specs.Dated.{given_of}
@@ -50,6 +51,7 @@ use Rattle.commands.specs.Rows.{
   number_in,
   ok_or,
   or_none,
+  partnership_in,
   quality_in,
   read_entry,
   read_fields,
@@ -104,6 +106,10 @@ quality-or-none (Some quality.Questionable) = ap (λ r. and_then r (λ a. Ok (So
 quality-or-none (Some quality.Secondary) = ap (λ r. and_then r (λ a. Ok (Some a))) (quality-again quality.Secondary)
 quality-or-none (Some quality.Primary) = ap (λ r. and_then r (λ a. Ok (Some a))) (quality-again quality.Primary)
 
+partnership-again : (p : Partnership) → partnership_in (partnership_word p) ≡ Ok p
+unfolding partnership_in
+partnership-again p = ap (ok_or BadRow) (partnership_back p)
+
 date-again : (date : Option GivenDate) → WhereSome IsDate date → given_of (or_empty spelt date) ≡ date
 date-again None h = one_given [] (given_of []) None (gives_of []) refl
 date-again (Some g) h = one_given g.spelling (given_of g.spelling) (Some g) (gives_of g.spelling) (h.some, h, h.written)
@@ -150,6 +156,10 @@ verb_back verb.Unlink = refl
 verb_back verb.Merge = refl
 verb_back verb.Undo = refl
 verb_back verb.Remove = refl
+verb_back verb.Partner = refl
+verb_back verb.Unpartner = refl
+verb_back verb.Unchild = refl
+verb_back verb.Unparticipant = refl
 
 by-verb : (v : Verb) (fields : List (List ℕ)) → read_row given_of (verb_word v ∷ fields) ≡ read_fields given_of v fields
 by-verb v fields = rw (verb_back v) refl
@@ -207,6 +217,24 @@ row-again (row_command.Merge keep gone) h =
 row-again (row_command.Undo slip) h = by-verb verb.Undo (decimal slip ∷ []) ∙ rw (number_back slip h.0 h.1) refl
 row-again (row_command.Remove number) h = by-verb verb.Remove (decimal number ∷ [])
     ∙ rw (number_back number h.0 h.1) refl
+row-again (row_command.Partner family partnership person) h =
+    by-verb verb.Partner (decimal family ∷ partnership_word partnership ∷ decimal person ∷ [])
+    ∙ rw (number_back family h.0.0 h.0.1, partnership-again partnership, number_back person h.1.0 h.1.1) refl
+row-again (row_command.Unpartner family person) h =
+    by-verb verb.Unpartner (decimal family ∷ decimal person ∷ []) ∙ rw (
+      number_back family h.0.0 h.0.1,
+      number_back person h.1.0 h.1.1,
+    ) refl
+row-again (row_command.Unchild family person) h =
+    by-verb verb.Unchild (decimal family ∷ decimal person ∷ []) ∙ rw (
+      number_back family h.0.0 h.0.1,
+      number_back person h.1.0 h.1.1,
+    ) refl
+row-again (row_command.Unparticipant event place) h =
+    by-verb verb.Unparticipant (decimal event ∷ decimal place ∷ []) ∙ rw (
+      number_back event h.0.0 h.0.1,
+      number_back place h.1.0 h.1.1,
+    ) refl
 
 pub row_back : (c : RowCommand) → IsSoundRow c → Reads (row_of c) (Ok c)
 row_back c h = is_reading (row_of c) (Ok c) (sym (row-again c h))
@@ -272,6 +300,14 @@ bytes_back (row_command.Merge keep gone) rest = read-write-many (verb_word verb.
     (decimal gone ∷ []) rest
 bytes_back (row_command.Undo slip) rest = read-write-many (verb_word verb.Undo) (decimal slip) [] rest
 bytes_back (row_command.Remove number) rest = read-write-many (verb_word verb.Remove) (decimal number) [] rest
+bytes_back (row_command.Partner family partnership person) rest =
+    read-write-many (verb_word verb.Partner) (decimal family) (partnership_word partnership ∷ decimal person ∷ []) rest
+bytes_back (row_command.Unpartner family person) rest = read-write-many (verb_word verb.Unpartner) (decimal family)
+    (decimal person ∷ []) rest
+bytes_back (row_command.Unchild family person) rest = read-write-many (verb_word verb.Unchild) (decimal family)
+    (decimal person ∷ []) rest
+bytes_back (row_command.Unparticipant event place) rest =
+    read-write-many (verb_word verb.Unparticipant) (decimal event) (decimal place ∷ []) rest
 
 -- row commands of one row are one
 pub one_row : (c d : RowCommand) → IsSoundRow c → IsSoundRow d → row_of c ≡ row_of d → c ≡ d

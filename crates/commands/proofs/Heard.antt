@@ -43,6 +43,7 @@ use Rattle.commands.specs.Rows.{
   number_in,
   ok_or,
   or_none,
+  partnership_in,
   quality_in,
   read_entry,
   read_fields,
@@ -217,6 +218,29 @@ fields-sound given verb.Undo (slip ∷ []) c dates e =
 fields-sound given verb.Remove (number ∷ []) c dates e =
     then-sound (number_in number) IsNumber (λ n. Ok (row_command.Remove n)) c (number-in number)
     (λ n h same. is-that (row_command.Remove n) c same h) e
+fields-sound given verb.Partner (family ∷ role ∷ person ∷ []) c dates e =
+    then-sound (number_in family) IsNumber
+    (λ f. and_then (partnership_in role) (λ r. and_then (number_in person) (λ p. Ok (row_command.Partner f r p)))) c
+    (number-in family)
+    (λ f x. then-sound (partnership_in role) (λ r. Unit {0})
+    (λ r. and_then (number_in person) (λ p. Ok (row_command.Partner f r p))) c (λ r i. tt)
+    (λ r i. then-sound (number_in person) IsNumber (λ p. Ok (row_command.Partner f r p)) c (number-in person)
+    (λ p y same. is-that (row_command.Partner f r p) c same (x, y)))) e
+fields-sound given verb.Unpartner (family ∷ person ∷ []) c dates e =
+    then-sound (number_in family) IsNumber (λ n. and_then (number_in person) (λ k. Ok (row_command.Unpartner n k))) c
+    (number-in family)
+    (λ n x. then-sound (number_in person) IsNumber (λ k. Ok (row_command.Unpartner n k)) c (number-in person)
+    (λ k y same. is-that (row_command.Unpartner n k) c same (x, y))) e
+fields-sound given verb.Unchild (family ∷ person ∷ []) c dates e =
+    then-sound (number_in family) IsNumber (λ n. and_then (number_in person) (λ k. Ok (row_command.Unchild n k))) c
+    (number-in family)
+    (λ n x. then-sound (number_in person) IsNumber (λ k. Ok (row_command.Unchild n k)) c (number-in person)
+    (λ k y same. is-that (row_command.Unchild n k) c same (x, y))) e
+fields-sound given verb.Unparticipant (event ∷ place ∷ []) c dates e =
+    then-sound (number_in event) IsNumber (λ n. and_then (number_in place) (λ k. Ok (row_command.Unparticipant n k))) c
+    (number-in event)
+    (λ n x. then-sound (number_in place) IsNumber (λ k. Ok (row_command.Unparticipant n k)) c (number-in place)
+    (λ k y same. is-that (row_command.Unparticipant n k) c same (x, y))) e
 fields-sound given _ _ c dates e = absurd cc
 
 row-sound : (given : List ℕ → Option GivenDate) (row : List (List ℕ)) (c : RowCommand)

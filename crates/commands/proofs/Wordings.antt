@@ -239,6 +239,10 @@ row-begins (row_command.Unlink entry mention) = (verb.Unlink, refl)
 row-begins (row_command.Merge keep gone) = (verb.Merge, refl)
 row-begins (row_command.Undo slip) = (verb.Undo, refl)
 row-begins (row_command.Remove number) = (verb.Remove, refl)
+row-begins (row_command.Partner family partnership person) = (verb.Partner, refl)
+row-begins (row_command.Unpartner family person) = (verb.Unpartner, refl)
+row-begins (row_command.Unchild family person) = (verb.Unchild, refl)
+row-begins (row_command.Unparticipant event place) = (verb.Unparticipant, refl)
 
 some-fields : (rows : List EntryRow) → HaveFields (map entry_fields rows)
 some-fields [] = tt

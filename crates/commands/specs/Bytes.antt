@@ -4,7 +4,7 @@ use Rattle.std.specs.Prelude.{ℕ, List, [], ◌∷◌, ◌++◌, map, codes, Op
 use Rattle.std.specs.List.{flat_map}
 use Rattle.csv.specs.Writing.{default_writer, row_text}
 use Rattle.sha2.specs.Sha256.{sha256}
-use Rattle.record_fields.specs.Words.{entry_kind_word, quality_word, sex_word}
+use Rattle.record_fields.specs.Words.{entry_kind_word, partnership_word, quality_word, sex_word}
 use Rattle.gedcom_tree.specs.Text.{text}
 use Rattle.commands.specs.Given.{GivenDate}
 use Rattle.commands.specs.Verbs.{verb_word}
@@ -61,6 +61,11 @@ row_of (row_command.Unlink entry mention) = verb_word verb.Unlink ∷ decimal en
 row_of (row_command.Merge keep gone) = verb_word verb.Merge ∷ decimal keep ∷ decimal gone ∷ []
 row_of (row_command.Undo slip) = verb_word verb.Undo ∷ decimal slip ∷ []
 row_of (row_command.Remove number) = verb_word verb.Remove ∷ decimal number ∷ []
+row_of (row_command.Partner family partnership person) =
+    verb_word verb.Partner ∷ decimal family ∷ partnership_word partnership ∷ decimal person ∷ []
+row_of (row_command.Unpartner family person) = verb_word verb.Unpartner ∷ decimal family ∷ decimal person ∷ []
+row_of (row_command.Unchild family person) = verb_word verb.Unchild ∷ decimal family ∷ decimal person ∷ []
+row_of (row_command.Unparticipant event place) = verb_word verb.Unparticipant ∷ decimal event ∷ decimal place ∷ []
 
 -- ---- bytes
 -- what the bytes of a command are written from: the fields of one row; the source of a batch of entries and the fields

@@ -25,9 +25,10 @@ use Rattle.std.specs.List.{list_all}
 use Rattle.std.specs.Str.Parse.{digits_value}
 use Rattle.record_text.specs.declared.refusal.RefusalKind.{RefusalKind}
 use Rattle.record_text.specs.declared.refusal.RefusalKind.TheVariants.{OutOfMemory, BadRow, UnknownVerb, FieldCount}
-use Rattle.record_fields.specs.Words.{entry_kind_of, quality_of, sex_of}
+use Rattle.record_fields.specs.Words.{entry_kind_of, partnership_of, quality_of, sex_of}
 use Rattle.record_fields.specs.declared.entry_words.EntryKind.{EntryKind}
 use Rattle.record_fields.specs.declared.item.Item.{Item}
+use Rattle.record_fields.specs.declared.words.Partnership.{Partnership}
 use Rattle.record_fields.specs.declared.words.Quality.{Quality}
 use Rattle.record_fields.specs.declared.words.Sex.{Sex}
 use Rattle.commands.specs.Given.{GivenDate, Gives}
@@ -68,6 +69,10 @@ sex_in field = ok_or BadRow (sex_of field)
 -- the digit 0, 1, 2 or 3
 unfoldable pub quality_in : List ℕ → Result Quality RefusalKind
 quality_in field = ok_or BadRow (quality_of field)
+
+-- the word husband or wife
+unfoldable pub partnership_in : List ℕ → Result Partnership RefusalKind
+partnership_in field = ok_or BadRow (partnership_of field)
 
 -- the word BAPTISM, MARRIAGE or BURIAL
 unfoldable pub kind_in : List ℕ → Result EntryKind RefusalKind
@@ -145,6 +150,15 @@ read_fields given verb.Merge (keep ∷ gone ∷ []) =
     and_then (number_in keep) (λ k. and_then (number_in gone) (λ g. Ok (row_command.Merge k g)))
 read_fields given verb.Undo (slip ∷ []) = and_then (number_in slip) (λ s. Ok (row_command.Undo s))
 read_fields given verb.Remove (number ∷ []) = and_then (number_in number) (λ n. Ok (row_command.Remove n))
+read_fields given verb.Partner (family ∷ role ∷ person ∷ []) =
+    and_then (number_in family) (λ f. and_then (partnership_in role) (λ r. and_then (number_in person) (λ p.
+    Ok (row_command.Partner f r p))))
+read_fields given verb.Unpartner (family ∷ person ∷ []) =
+    and_then (number_in family) (λ f. and_then (number_in person) (λ p. Ok (row_command.Unpartner f p)))
+read_fields given verb.Unchild (family ∷ person ∷ []) =
+    and_then (number_in family) (λ f. and_then (number_in person) (λ p. Ok (row_command.Unchild f p)))
+read_fields given verb.Unparticipant (event ∷ place ∷ []) =
+    and_then (number_in event) (λ e. and_then (number_in place) (λ k. Ok (row_command.Unparticipant e k)))
 read_fields given _ _ = Err FieldCount
 
 -- the verb first

@@ -52,6 +52,10 @@ IsSoundRow (row_command.Unlink entry mention) = IsNumber entry × IsNumber menti
 IsSoundRow (row_command.Merge keep gone) = IsNumber keep × IsNumber gone
 IsSoundRow (row_command.Undo slip) = IsNumber slip
 IsSoundRow (row_command.Remove number) = IsNumber number
+IsSoundRow (row_command.Partner family partnership person) = IsNumber family × IsNumber person
+IsSoundRow (row_command.Unpartner family person) = IsNumber family × IsNumber person
+IsSoundRow (row_command.Unchild family person) = IsNumber family × IsNumber person
+IsSoundRow (row_command.Unparticipant event place) = IsNumber event × IsNumber place
 
 -- the same of any command: of a batch of entries, of its source and of each row; the nodes of an import are a forest
 abbrev pub IsSound : Command → Type 0

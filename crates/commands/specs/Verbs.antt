@@ -23,12 +23,17 @@ verb_word verb.Unlink = codes "unlink"
 verb_word verb.Merge = codes "merge"
 verb_word verb.Undo = codes "undo"
 verb_word verb.Remove = codes "remove"
+verb_word verb.Partner = codes "partner"
+verb_word verb.Unpartner = codes "unpartner"
+verb_word verb.Unchild = codes "unchild"
+verb_word verb.Unparticipant = codes "unparticipant"
 
 abbrev pub verbs : List Verb
 verbs =
     verb.Person ∷ verb.Name ∷ verb.Sex ∷ verb.Family ∷ verb.Child ∷ verb.Event ∷ verb.Amend ∷ verb.Participant
     ∷ verb.Place ∷ verb.Repo ∷ verb.Source ∷ verb.Citation
-    ∷ verb.Entry ∷ verb.Link ∷ verb.Unlink ∷ verb.Merge ∷ verb.Undo ∷ verb.Remove ∷ []
+    ∷ verb.Entry ∷ verb.Link ∷ verb.Unlink ∷ verb.Merge ∷ verb.Undo ∷ verb.Remove
+    ∷ verb.Partner ∷ verb.Unpartner ∷ verb.Unchild ∷ verb.Unparticipant ∷ []
 
 -- the verb of a word
 unfoldable pub verb_of : List ℕ → Option Verb

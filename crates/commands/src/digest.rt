@@ -11,6 +11,7 @@ use crate::entry_bytes::{entries_bytes, entry_bytes};
 use crate::field::Field;
 use crate::forest_bytes::{forest_bytes, forest_digest};
 use crate::given::GivenDate;
+use crate::member_bytes::{partner_bytes, two_numbers};
 use crate::row_command::RowCommand;
 use crate::rows::verb_row;
 use crate::verb::Verb;
@@ -99,6 +100,20 @@ fn row_command_bytes(alloc: Global, row: &RowCommand) -> Result<Vec<u8>, AllocEr
         RowCommand::Merge { keep, gone } => merge_bytes(alloc, *keep, *gone),
         RowCommand::Undo { slip } => undo_bytes(alloc, *slip),
         RowCommand::Remove { number } => remove_bytes(alloc, *number),
+        RowCommand::Partner {
+            family,
+            partnership,
+            person,
+        } => partner_bytes(alloc, *family, *partnership, *person),
+        RowCommand::Unpartner { family, person } => {
+            two_numbers(alloc, Verb::Unpartner, *family, *person)
+        }
+        RowCommand::Unchild { family, person } => {
+            two_numbers(alloc, Verb::Unchild, *family, *person)
+        }
+        RowCommand::Unparticipant { event, place } => {
+            two_numbers(alloc, Verb::Unparticipant, *event, *place)
+        }
     }
 }
 

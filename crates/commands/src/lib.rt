@@ -20,6 +20,8 @@ mod field;
 mod forest_bytes;
 mod given;
 pub mod laws;
+mod member_bytes;
+mod member_reading;
 mod reading;
 mod row_command;
 mod rows;

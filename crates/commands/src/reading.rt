@@ -10,6 +10,7 @@ ghost use Rattle.commands.specs.declared.verb.Verb.TheVariants as verb;
 use crate::entry_reading::entry_of_fields;
 use crate::field::Field;
 use crate::given::GivenDate;
+use crate::member_reading::{partner, unchild, unparticipant, unpartner};
 use crate::row_command::RowCommand;
 use crate::verb::Verb;
 use record_fields::{Quality, Sex};
@@ -61,12 +62,19 @@ fn of_fields(alloc: Global, verb: Verb, fields: &[&str]) -> Result<RowCommand, R
         (Verb::Merge, [keep, gone]) => merge(keep, gone),
         (Verb::Undo, [slip]) => undo(slip),
         (Verb::Remove, [number]) => remove(number),
+        (Verb::Partner, [family, role, person]) => partner(family, role, person),
+        (Verb::Unpartner, [family, person]) => unpartner(family, person),
+        (Verb::Unchild, [family, person]) => unchild(family, person),
+        (Verb::Unparticipant, [event, place]) => unparticipant(event, place),
         // An arm of their own: `auto` follows no more than sixteen ways into one.
         (Verb::Place | Verb::Repo | Verb::Source | Verb::Citation, _) => Err(
             RefusalKind::FieldCount,
         ),
         (Verb::Entry | Verb::Link | Verb::Unlink, _) => Err(RefusalKind::FieldCount),
         (Verb::Merge | Verb::Undo | Verb::Remove, _) => Err(RefusalKind::FieldCount),
+        (Verb::Partner | Verb::Unpartner | Verb::Unchild | Verb::Unparticipant, _) => Err(
+            RefusalKind::FieldCount,
+        ),
         _ => Err(RefusalKind::FieldCount),
     }
 }

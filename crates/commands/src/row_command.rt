@@ -3,7 +3,7 @@
 use crate::entry_row::EntryRow;
 use crate::field::Field;
 use crate::given::GivenDate;
-use record_fields::{Quality, Sex};
+use record_fields::{Partnership, Quality, Sex};
 
 /// A command of one row, with its fields in the order of the row.
 #[derive(Drop)]
@@ -107,5 +107,26 @@ pub enum RowCommand {
     /// A record is removed of the archive.
     Remove {
         number: u32,
+    },
+    /// A further partner of a family, last among its partners.
+    Partner {
+        family: u32,
+        partnership: Partnership,
+        person: u32,
+    },
+    /// A person is no partner of a family any more.
+    Unpartner {
+        family: u32,
+        person: u32,
+    },
+    /// A person is no child of a family any more.
+    Unchild {
+        family: u32,
+        person: u32,
+    },
+    /// The participant of a place in the list of an event, from 1, is removed.
+    Unparticipant {
+        event: u32,
+        place: u32,
     },
 }

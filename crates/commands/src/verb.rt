@@ -42,6 +42,14 @@ pub enum Verb {
     Undo,
     /// A record is removed.
     Remove,
+    /// A further partner of a family.
+    Partner,
+    /// A person is no partner of a family any more.
+    Unpartner,
+    /// A person is no child of a family any more.
+    Unchild,
+    /// A participant is removed from an event.
+    Unparticipant,
 }
 
 impl Verb {
@@ -68,6 +76,10 @@ impl Verb {
             Verb::Merge => "merge",
             Verb::Undo => "undo",
             Verb::Remove => "remove",
+            Verb::Partner => "partner",
+            Verb::Unpartner => "unpartner",
+            Verb::Unchild => "unchild",
+            Verb::Unparticipant => "unparticipant",
         }
     }
 
@@ -95,6 +107,10 @@ impl Verb {
             "merge" => Some(Verb::Merge),
             "undo" => Some(Verb::Undo),
             "remove" => Some(Verb::Remove),
+            "partner" => Some(Verb::Partner),
+            "unpartner" => Some(Verb::Unpartner),
+            "unchild" => Some(Verb::Unchild),
+            "unparticipant" => Some(Verb::Unparticipant),
             _ => None,
         }
     }

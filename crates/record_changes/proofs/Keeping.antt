@@ -1,5 +1,5 @@
--- A sound archive with another record of the same kind in place of one is sound: one change of those that
--- `archive_state` has in its proofs/Keeping.
+-- A sound archive with a record more, or another of the same kind, is sound: one change of those that `archive_state`
+-- has in its proofs/Keeping.
 use Rattle.std.proofs.Common.{◌≡◌, ◌⊎◌, ℕ, ◌<◌, ◌≤◌, List, ◌++◌, false, refl, sym, ap, ◌∙◌, inl, inr, subst, arith}
 use Rattle.std.specs.Prelude.{Option, Some, None}
 use Rattle.std.specs.FinMap.{get, insert}

@@ -9,10 +9,11 @@ pub(crate) enum Use {
     Record,
     /// The same, or nothing.
     RecordOrNone,
-    /// The place of a mention.
+    /// The place of a mention or a participant.
     Number,
     Sex,
     SexOrNone,
+    Partnership,
     QualityOrNone,
     Kind,
     Item,
@@ -36,7 +37,8 @@ pub(crate) fn column_at(verb: Verb, at: usize) -> Option<Column> {
     match verb {
         Verb::Person | Verb::Name | Verb::Sex => of_person(verb, at),
         Verb::Family | Verb::Child | Verb::Merge => of_family(verb, at),
-        Verb::Event | Verb::Amend | Verb::Participant => of_event(verb, at),
+        Verb::Partner | Verb::Unpartner | Verb::Unchild => of_member(verb, at),
+        Verb::Event | Verb::Amend | Verb::Participant | Verb::Unparticipant => of_event(verb, at),
         Verb::Place | Verb::Repo | Verb::Source | Verb::Citation => of_source(verb, at),
         Verb::Entry => of_entry(at),
         Verb::Link | Verb::Unlink => of_link(verb, at),
@@ -75,6 +77,18 @@ fn of_family(verb: Verb, at: usize) -> Option<Column> {
     }
 }
 
+fn of_member(verb: Verb, at: usize) -> Option<Column> {
+    match (verb, at) {
+        (_, 0) => Some(named("family", Use::Record)),
+        (Verb::Partner, 1) => Some(named("role", Use::Partnership)),
+        (Verb::Unpartner, 1) | (Verb::Unchild, 1) | (Verb::Partner, 2) => Some(named(
+            "person",
+            Use::Record,
+        )),
+        _ => None,
+    }
+}
+
 fn of_event(verb: Verb, at: usize) -> Option<Column> {
     match (verb, at) {
         (Verb::Event, 0) => Some(named("owner", Use::Record)),
@@ -82,9 +96,13 @@ fn of_event(verb: Verb, at: usize) -> Option<Column> {
         (Verb::Event, 2) | (Verb::Amend, 1) => Some(named("value", Use::Text)),
         (Verb::Event, 3) | (Verb::Amend, 2) => Some(named("date", Use::Date)),
         (Verb::Event, 4) | (Verb::Amend, 3) => Some(named("place", Use::RecordOrNone)),
-        (Verb::Amend, 0) | (Verb::Participant, 0) => Some(named("event", Use::Record)),
+        (Verb::Amend, 0) | (Verb::Participant, 0) | (Verb::Unparticipant, 0) => Some(named(
+            "event",
+            Use::Record,
+        )),
         (Verb::Participant, 1) => Some(named("person", Use::Record)),
         (Verb::Participant, 2) => Some(named("role", Use::Text)),
+        (Verb::Unparticipant, 1) => Some(named("participant", Use::Number)),
         _ => None,
     }
 }
@@ -156,5 +174,9 @@ pub(crate) fn names_of(verb: Verb) -> &'static str {
         Verb::Merge => "person that stays, person that is gone",
         Verb::Undo => "slip",
         Verb::Remove => "number",
+        Verb::Partner => "family, role, person",
+        Verb::Unpartner => "family, person",
+        Verb::Unchild => "family, person",
+        Verb::Unparticipant => "event, participant",
     }
 }

@@ -4,7 +4,7 @@ use crate::columns::{Column, MENTIONS, Use, column_at};
 use crate::finding::{Finding, Place};
 use commands::Verb;
 use csv::ByteRecord;
-use record_fields::{EntryKind, Item, Quality, Role, Sex};
+use record_fields::{EntryKind, Item, Partnership, Quality, Role, Sex};
 
 /// Where the fields after the verb begin.
 const FIELDS: usize = 2;
@@ -98,6 +98,9 @@ fn wanted(what: Use, text: &str) -> Option<&'static str> {
         Use::Sex if Sex::from_word(text).is_none() => Some("none of M, F and U"),
         Use::SexOrNone if !text.is_empty() && Sex::from_word(text).is_none() => Some(
             "neither empty nor M, F or U",
+        ),
+        Use::Partnership if Partnership::from_word(text).is_none() => Some(
+            "neither husband nor wife",
         ),
         Use::QualityOrNone if !text.is_empty() && Quality::from_word(text).is_none() => Some(
             "neither empty nor 0, 1, 2 or 3",
@@ -331,6 +334,24 @@ fn is_no_role(row: &ByteRecord, at: usize) -> bool {
         Some(word) => Role::from_word(word).is_none(),
         None => false,
     }
+}
+
+/// 59: the person.
+pub(crate) fn already_in_family(row: &ByteRecord) -> Finding {
+    let at = match verb_of(row) {
+        Some(Verb::Partner) => FIELDS + 2,
+        _ => FIELDS + 1,
+    };
+    field(row, at, "the family has this person already")
+}
+
+/// 65: the person.
+pub(crate) fn not_member(row: &ByteRecord) -> Finding {
+    let what = match verb_of(row) {
+        Some(Verb::Unchild) => "the family has no such child",
+        _ => "the family has no such partner",
+    };
+    field(row, FIELDS + 1, what)
 }
 
 /// The field at a place, from 0, with what is wrong with it.

@@ -2,8 +2,8 @@
 
 use crate::finding::Finding;
 use crate::forms::{
-    bad_number, bad_row, bad_text, bad_token, field, field_count, fields, no_such, not_of_kind,
-    unknown_verb,
+    already_in_family, bad_number, bad_row, bad_text, bad_token, field, field_count, fields,
+    no_such, not_member, not_of_kind, unknown_verb,
 };
 use csv::ByteRecord;
 use record_text::RefusalKind;
@@ -41,11 +41,13 @@ fn of_request(kind: RefusalKind, row: &ByteRecord) -> Finding {
             "a record that the merge changed was changed since, or removed",
         ),
         RefusalKind::AlreadyUndone => field(row, 2, "it was undone before"),
-        RefusalKind::AlreadyInFamily => field(row, 3, "the family has this person already"),
+        RefusalKind::AlreadyInFamily => already_in_family(row),
         RefusalKind::DuplicateEntry => Finding::Row {
             what: "there is an entry of the same source, kind, page and item",
         },
         RefusalKind::NoSuchMention => field(row, 3, "the entry has not so many mentions"),
+        RefusalKind::NoSuchField => field(row, 3, "the event has not so many participants"),
+        RefusalKind::NotMember => not_member(row),
         RefusalKind::Full => Finding::Row {
             what: "no number is left",
         },

@@ -265,6 +265,10 @@ word_printed verb.Unlink = refl
 word_printed verb.Merge = refl
 word_printed verb.Undo = refl
 word_printed verb.Remove = refl
+word_printed verb.Partner = refl
+word_printed verb.Unpartner = refl
+word_printed verb.Unchild = refl
+word_printed verb.Unparticipant = refl
 
 word_utf8 : (v : Verb) → IsUtf8 (verb_word v)
 word_utf8 v = IsUtf8-from_ascii (verb_word v) (printed_ascii (verb_word v) (word_printed v))

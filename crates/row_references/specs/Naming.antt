@@ -4,7 +4,8 @@ use Rattle.commands.specs.Verbs.{verb_of}
 use Rattle.commands.specs.declared.verb.Verb.{Verb}
 use Rattle.commands.specs.declared.verb.Verb.TheVariants as verb
 
--- of each verb, by their places in the row: 0 is the token's, 1 the verb's. The place of a mention names none
+-- of each verb, by their places in the row: 0 is the token's, 1 the verb's. The place of a mention or
+-- a participant names none
 abbrev pub naming_fields : Verb → List ℕ
 naming_fields verb.Person = []
 naming_fields verb.Name = 2 ∷ []
@@ -24,6 +25,10 @@ naming_fields verb.Unlink = 2 ∷ []
 naming_fields verb.Merge = 2 ∷ 3 ∷ []
 naming_fields verb.Undo = 2 ∷ []
 naming_fields verb.Remove = 2 ∷ []
+naming_fields verb.Partner = 2 ∷ 4 ∷ []
+naming_fields verb.Unpartner = 2 ∷ 3 ∷ []
+naming_fields verb.Unchild = 2 ∷ 3 ∷ []
+naming_fields verb.Unparticipant = 2 ∷ []
 
 abbrev pub naming_by : Option Verb → List ℕ
 naming_by None = []

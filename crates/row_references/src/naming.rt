@@ -38,12 +38,15 @@ fn naming_fields(verb: Verb) -> &'static [usize]
     match verb {
         Verb::Person | Verb::Repo => &[],
         Verb::Name | Verb::Sex | Verb::Unlink | Verb::Undo | Verb::Remove => &[2],
+        Verb::Unparticipant => &[2],
         Verb::Family | Verb::Child | Verb::Participant | Verb::Citation | Verb::Merge => &[2, 3],
+        Verb::Unpartner | Verb::Unchild => &[2, 3],
         Verb::Event => &[2, 6],
         Verb::Amend => &[2, 5],
         Verb::Place => &[3],
         Verb::Source => &[5],
         Verb::Entry => &[2, 7],
         Verb::Link => &[2, 4],
+        Verb::Partner => &[2, 4],
     }
 }

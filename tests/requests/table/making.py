@@ -23,6 +23,8 @@ NAMES = {
     61: "NoSuchMention",
     62: "NotOfKind",
     63: "Full",
+    64: "NoSuchField",
+    65: "NotMember",
     90: "BadRow",
     91: "UnknownVerb",
     92: "FieldCount",

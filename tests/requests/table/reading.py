@@ -40,6 +40,10 @@ GOOD = {
     "merge": ("1", "2"),
     "undo": ("4",),
     "remove": ("7",),
+    "partner": ("3", "wife", "2"),
+    "unpartner": ("3", "1"),
+    "unchild": ("3", "2"),
+    "unparticipant": ("4", "1"),
 }
 # The places of the numbers in it, and of those that may be missing.
 NUMBERS = {
@@ -58,6 +62,10 @@ NUMBERS = {
     "merge": (0, 1),
     "undo": (0,),
     "remove": (0,),
+    "partner": (0, 2),
+    "unpartner": (0, 1),
+    "unchild": (0, 1),
+    "unparticipant": (0, 1),
 }
 MAY_BE_MISSING = {"family": (0, 1), "event": (4,), "amend": (3,), "place": (1,), "source": (3,)}
 
@@ -90,6 +98,11 @@ NO_QUALITIES = (
     *(" ", "primary", "\u0662", "\uff12", "\u00b2"),
 )
 NO_SEXES = ("X", "m", "f", "u", "MF", "M ", " M", "male", "\u039c", "M\n")
+
+NO_PARTNERSHIPS = (
+    *("", "Husband", "WIFE", "HUSB", "partner", "child", "spouse", "M", "F", "w", " wife", "wife ", "wife\n", "wives"),
+    *("husbands", "husban", "husband\0", "1"),
+)
 
 # Dates as they are given, and as they are spelt: docs/FORMATS.md, "Dates".
 DATES = (
@@ -274,6 +287,21 @@ BYTES = (
             'bytes,"remove,7\n"',
             "digest,8c85572a23a19208d983ab4123c61d717566d430b5b674a209d1a4a8d981690a",
         ),
+        itself("partner", "3", "husband", "2"),
+        itself("partner", "4294967295", "wife", "4294967294"),
+        ask(
+            "! bytes,partner,003,wife,0000000002",
+            'bytes,"partner,3,wife,2\n"',
+            "digest,0f77aeea83ab9112231cafc0ebedcf2372415ac447afb2798e9e98a78f3a9d24",
+        ),
+        itself("unpartner", "3", "1"),
+        itself("unchild", "3", "1"),
+        itself("unparticipant", "4", "1"),
+        ask(
+            "! bytes,unparticipant,04,001",
+            'bytes,"unparticipant,4,1\n"',
+            "digest,fab4ff8e6a56c0b5f82c2d056da01989800e80a8fb86c7e558f1b244ad6229a4",
+        ),
         next_is(1),
     ),
     scenario("numbers in other spellings", list(good_numbers())),
@@ -372,6 +400,12 @@ ROWS = (
                 ("links", "9", "2", "1", "same farm"),
                 ("unlinked", "9", "2"),
                 ("unlink ", "9", "2"),
+                ("Partner", "3", "wife", "2"),
+                ("partners", "3", "wife", "2"),
+                ("unpartners", "3", "1"),
+                ("Unchild", "3", "1"),
+                ("unchildren", "3", "1"),
+                ("unparticipants", "4", "1"),
                 ("import",),
                 ("entries", "1"),
             )
@@ -383,6 +417,11 @@ ROWS = (
         "sexes that are none",
         [refuses(90, "x", "person", "John", sex) for sex in NO_SEXES],
         [refuses(90, "x", "sex", "1", sex) for sex in (*NO_SEXES, "")],
+    ),
+    scenario(
+        "roles of partners that are none",
+        [refuses(90, "x", "partner", "3", role, "1") for role in NO_PARTNERSHIPS],
+        [refuses(50, "x", "partner", "3", role, "1") for role in ("husband", "wife")],
     ),
     scenario(
         "qualities that are none",
@@ -422,6 +461,13 @@ ROWS = (
         ask("x,link,9,0,9,\0", "x,refused,90,BadRow"),
         ask("x,unlink,0,0,", "x,refused,92,FieldCount"),
         ask("x,unlink,9,0", "x,refused,90,BadRow"),
+        ask("x,partner,0,X", "x,refused,92,FieldCount"),
+        ask("x,partner,9,husband,0", "x,refused,90,BadRow"),
+        ask("x,unpartner,0,0,", "x,refused,92,FieldCount"),
+        ask("x,unpartner,9,0", "x,refused,90,BadRow"),
+        ask("x,unchild,9,", "x,refused,90,BadRow"),
+        ask("x,unparticipant,9", "x,refused,92,FieldCount"),
+        ask("x,unparticipant,9,0", "x,refused,90,BadRow"),
         keeps_nothing("x"),
         next_is(1),
     ),
