@@ -162,11 +162,10 @@ class Pages:
         last = max(1, -(-len(items) // EACH))
         if not 1 <= page <= last:
             return None
-        steps = f"Page {page} of {last}. "
-        steps += link(f"{address}page={page - 1}", "Previous page") if page > 1 else ""
-        steps += link(f"{address}page={page + 1}", "Next page") if page < last else ""
+        ways = [link(f"{address}page={page - 1}", "Previous page")] if page > 1 else []
+        ways += [link(f"{address}page={page + 1}", "Next page")] if page < last else []
         shown = items[EACH * (page - 1) : EACH * page]
-        return element("ul", "".join(shown)) + f'<p class="pages">{steps}</p>'
+        return element("ul", "".join(shown)) + f'<p class="pages">Page {page} of {last}. {" ".join(ways)}</p>'
 
     def register_entry(self, entry: Entry) -> str:
         mentions = []

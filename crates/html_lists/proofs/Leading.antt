@@ -16,7 +16,7 @@ use Rattle.std.proofs.Common.{
   flat_map,
   length,
 }
-use Rattle.std.specs.Prelude.{IfSome, nat_lt, option_map}
+use Rattle.std.specs.Prelude.{◌&&◌, IfSome, nat_lt, option_map}
 use Rattle.std.specs.FinMap.{get}
 use Rattle.std.specs.List.{list_all}
 use Rattle.record_kinds.specs.Model as model
@@ -46,7 +46,15 @@ use Rattle.html_pages.proofs.Leading.{
 }
 use Rattle.html_lists.specs.Home.{counts_parts, home_page, home_parts, register_at, register_item, registers_parts}
 use Rattle.html_lists.specs.Labels.{label_word}
-use Rattle.html_lists.specs.Paging.{after_parts, before_parts, last_page, page_of, page_parts, step_parts}
+use Rattle.html_lists.specs.Paging.{
+  after_parts,
+  before_parts,
+  between_parts,
+  last_page,
+  page_of,
+  page_parts,
+  step_parts,
+}
 use Rattle.html_lists.specs.Registers.{
   entries_of,
   entry_at,
@@ -118,6 +126,9 @@ after_leads at (paged.Register n) place h = if_leads at (nat_lt place.page place
 after_leads at (paged.Surname surname) place h = if_leads at (nat_lt place.page place.last) _ (tt, (tt, (tt, tt)))
 after_leads at (paged.Search words) place h = if_leads at (nat_lt place.page place.last) _ (tt, (tt, (tt, tt)))
 
+between_leads : (at : ℕ → Option Record) (place : Place) → LeadToShown at (between_parts place)
+between_leads at place = if_leads at (nat_lt 1 place.page && nat_lt place.page place.last) _ (tt, tt)
+
 steps_lead : (at : ℕ → Option Record) (of : Paged) (place : Place) → OfShown at of
     → LeadToShown at (step_parts of place)
 steps_lead at of place h = (
@@ -125,7 +136,7 @@ steps_lead at of place h = (
   (
     tt,
     joined at _ _ (before_leads at of place.page h)
-        (joined at _ _ (after_leads at of place h) (tt, tt)),
+        (joined at _ _ (between_leads at place) (joined at _ _ (after_leads at of place h) (tt, tt))),
   ),
 )
 

@@ -74,10 +74,14 @@ before_parts of page = if nat_lt 1 page then link_parts (route_of of (page - 1))
 abbrev pub after_parts : Paged → Place → List Part
 after_parts of at = if nat_lt at.page at.last then link_parts (route_of of (at.page + 1)) after_word else []
 
+-- a space between the two ways, where there are both
+abbrev pub between_parts : Place → List Part
+between_parts at = if nat_lt 1 at.page && nat_lt at.page at.last then part.Words (codes " ") ∷ [] else []
+
 -- which page this is, and these ways
 abbrev pub step_parts : Paged → Place → List Part
 step_parts of at = part.Styled element.P class.Pages ∷ (place_parts at ++ (before_parts of at.page
-    ++ (after_parts of at ++ part.End element.P ∷ [])))
+    ++ (between_parts at ++ (after_parts of at ++ part.End element.P ∷ []))))
 
 -- the items of a page of a list, and these
 abbrev pub page_parts : Paged → Place → List Part → List Part

@@ -102,6 +102,7 @@ fn push_steps(alloc: Global, out: &mut Parts, paged: &Paged, place: Place) -> Re
     out.push(Part::Styled(Element::P, Class::Pages))?;
     push_place(alloc, out, place)?;
     push_before(alloc, out, paged, place.page)?;
+    push_between(alloc, out, place)?;
     push_after(alloc, out, paged, place)?;
     out.end(Element::P)
 }
@@ -131,6 +132,16 @@ fn push_before(alloc: Global, out: &mut Parts, paged: &Paged, page: usize) -> Re
     if 1 < page {
         let route = route_of(alloc, paged, page - 1)?;
         return out.link(alloc, route, before_word());
+    }
+    Ok(())
+}
+
+/// Appends a space between the ways, where there are both: browsers of texts would print them as one word.
+fn push_between(alloc: Global, out: &mut Parts, place: Place) -> Result<(), AllocError>
+    ensures { OnOk result (out.new ≡ out.old ++ paging.between_parts place) }
+{
+    if 1 < place.page && place.page < place.last {
+        return out.words(alloc, " ");
     }
     Ok(())
 }
