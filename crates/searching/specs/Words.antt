@@ -18,6 +18,9 @@ use Rattle.std.specs.Prelude.{
   filter,
   flat_map,
   Contains,
+  Option,
+  Some,
+  None,
 }
 use Rattle.std.specs.List.{list_all, list_any, slice_split}
 use Rattle.ucd_category.specs.GeneralCategory.{general_category}
@@ -53,6 +56,12 @@ filled ((c ∷ cs) ∷ keys) = (c ∷ cs) ∷ filled keys
 -- the keys of the words of a text, in order
 abbrev pub words_of : List ℕ → List (List ℕ)
 words_of text = filled (map key_of (slice_split is_gap text))
+
+-- the first character of the first word
+abbrev pub initial : List (List ℕ) → Option ℕ
+initial [] = None
+initial ([] ∷ words) = None
+initial ((c ∷ cs) ∷ words) = Some c
 
 -- what stands after each apostrophe of a part
 abbrev pub after_apostrophes : List ℕ → List (List ℕ)

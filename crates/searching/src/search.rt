@@ -7,6 +7,7 @@ ghost use Rattle.searching.specs.Scans.{begins_text, items, keys, occurs_in};
 ghost use Rattle.searching.specs.Words.{
   all_occur as occur_test,
   filled,
+  initial as initial_of,
   is_apostrophe as apostrophe_test,
   is_letter as letter_test,
   is_word as word_test,
@@ -95,11 +96,38 @@ impl SearchWords {
         self.words.is_empty()
     }
 
+    /// The first character of the first word. `None`: there is no word. Takes no memory.
+    pub fn initial(&self) -> Option<char>
+        ensures { result ≡ initial_of self.now }
+    {
+        initial(&self.words)
+    }
+
     /// Whether each of the words begins a word of the text. Takes no memory.
     pub fn occur_in(&self, text: &SearchText) -> bool
         ensures { result ≡ occur_test self.now text.now }
     {
         all_occur(&self.words, &text.characters)
+    }
+}
+
+/// The first character of the first of these.
+fn initial(words: &[Vec<char>]) -> Option<char>
+    ensures { result ≡ initial_of (map items words.now) }
+{
+    match words {
+        [word, ..] => first_of(word),
+        [] => None,
+    }
+}
+
+/// The first character of a word.
+fn first_of(word: &[char]) -> Option<char>
+    ensures { result ≡ initial_of (word.now ∷ []) }
+{
+    match word {
+        [first, ..] => Some(*first),
+        [] => None,
     }
 }
 
