@@ -1,10 +1,10 @@
-"""References: `@` and a token in place of a number in a row of `apply`. The answers are worked out by hand, and what
-the archive holds is compared with that of the same rows with numbers."""
+"""References: `@` and a token in place of a number in a row of `apply`, or of the place of a row of `entries`. The
+answers are worked out by hand, and what the archive holds is compared with that of the same rows with numbers."""
 
 from __future__ import annotations
 
 from archives import Folder
-from harness import Case, Outcome, Tools, demand, expect, run, written
+from harness import Case, Outcome, Tools, demand, expect, refused, refused_row, run, written
 
 # One row of each verb, with references in every field that may have one.
 ROWS = b"""a,person,Ann /Lee/,F
@@ -134,7 +134,54 @@ def another_order(tools):
             demand(got == wanted, f"the family has {got}")
 
 
-TESTS = (every_verb, another_order)
+# Rows that stand before a batch on source 1: a place, 2, a person, 3, and a row that made nothing.
+KNOWN = b"q,place,Kent,\na,person,Ann /Lee/,F\nn,name,3,Anna\nbad,sex,9,M\n"
+ENTRY = b"BURIAL,f. 4,%d,,%s,,buried,Ann\n"
+BATCHES = (
+    ("nothing is kept", (b"@q", b"@nope"), 50, 2),
+    ("a row that was refused", (b"@bad",), 50, 1),
+    ("an answer that made nothing", (b"2", b"@n"), 50, 2),
+    ("its own token", (b"@batch",), 50, 1),
+    ("a record of another kind", (b"@q", b"@a"), 51, 2),
+    ("no token", (b"@q", b"@"), 90, 2),
+    ("a space in the token", (b"@a b",), 90, 1),
+    ("64 characters", (b"@" + 64 * b"x",), 50, 1),
+    ("65 characters", (b"@" + 65 * b"x",), 90, 1),
+    ("the form of a later row comes first", (b"@nope", b"x"), 90, 2),
+)
+
+
+def batch(places):
+    return b"".join(ENTRY % (k + 1, place) for k, place in enumerate(places))
+
+
+def batches_of_entries(tools):
+    """A batch with references is that with their numbers, and either may be sent again as the other."""
+    with Folder(tools) as at, Folder(tools) as numbers:
+        for each, places in ((at, (b"@q", b"", b"2")), (numbers, (b"2", b"", b"@q"))):
+            each.with_register(), each.apply(KNOWN)
+            for again in (places, (b"2", b"", b"2"), (b"@q", b"", b"@q")):
+                expect(each.entries(batch(again)), written(b"made 3 entries, first 4\n"))
+        demand(at.tables() == numbers.tables(), "the rows with references made something else")
+        expect(at.entries(batch((b"@q", b"", b""))), refused(52))
+
+
+def one_batch(tools, places, number, row):
+    """Nothing is made where a reference has no number."""
+    with Folder(tools) as at:
+        at.with_register(), at.apply(KNOWN)
+        before = at.tables()
+        expect(at.entries(batch(places)), refused_row(number, row))
+        demand(at.tables() == before, "the tables changed")
+
+
+def a_missing_place_comes_before_the_source(tools):
+    with Folder(tools) as at:
+        at.with_register()
+        expect(at.entries(batch((b"@nope",)), source=9), refused_row(50, 1))
+
+
+TESTS = (every_verb, another_order, batches_of_entries, a_missing_place_comes_before_the_source)
 
 
 def cases(tools: Tools):
@@ -142,3 +189,5 @@ def cases(tools: Tools):
         yield Case(f"references: {test.__name__.replace('_', ' ')}", lambda test=test: test(tools))
     for name, row, answer in ANSWERS:
         yield Case(f"references: {name}", lambda r=row, a=answer: one_answer(tools, r, a))
+    for name, places, number, row in BATCHES:
+        yield Case(f"references of a batch: {name}", lambda p=places, n=number, r=row: one_batch(tools, p, n, r))

@@ -1,5 +1,4 @@
 mod Asked
-mod Entered
 mod Firsts
 pub mod InTurn
 mod OnTheWay

@@ -1,6 +1,5 @@
 pub mod Answers
 pub mod Applying
-pub mod Entering
 pub mod Referring
 pub mod Requests
 pub mod RowByRow

@@ -1,4 +1,4 @@
-//! What an open archive takes in: rows of requests, batches of entries, and files of lines.
+//! What an open archive takes in: rows of requests, and files of lines.
 //!
 //! - `answers`, `applying`, `bad_request`, `entering`, `laws`, `request`, `serving`, `telling`: rows of requests, read
 //!   and answered as CSV.
@@ -25,7 +25,7 @@ mod telling;
 
 pub use applying::{apply, apply_until_refused};
 pub use bad_request::BadRequest;
-pub use entering::{enter, perform_once};
+pub use entering::perform_once;
 pub use faults::refusal_of;
 pub use import_telling::import_text;
 pub use importing::import;

@@ -39,6 +39,7 @@ use Rattle.archive_output.specs.Exporting.{export_text}
 use Rattle.archive_output.specs.Reading.{OnOpen}
 use Rattle.archive_tables.specs.Texts.{list_of, shown_text}
 use Rattle.archive_state.specs.Content.{Content}
+use Rattle.archive_tables.specs.RowBatches.{Enters, IsEntered as IsBatch, batch_request, numbers_on}
 use Rattle.archive_tables.specs.Entering.{EntersEntries, EntersPage, IsEntered, answered, page_request}
 use Rattle.archive_tables.specs.declared.entering.PageEnd.TheVariants.{Entered, Unread}
 use Rattle.page_batches.specs.Batches.{rows_on}
@@ -88,7 +89,6 @@ use Rattle.archive_input.specs.Applying.{
   answers,
   calls_of,
 }
-use Rattle.archive_input.specs.Entering.{Enters, batch_request}
 use Rattle.archive_input.specs.Stopping.{AreAccepted, IsUpToRefusal}
 use Rattle.archive_input.proofs.Refusals.{accepted_up_to, refused_up_to}
 use Rattle.tasks.specs.Ends.{
@@ -146,6 +146,9 @@ was_refused : (numbers : List ℕ) (why : BatchRefusal) (o : Answered) → Err w
     → (e : Refusal) × (o ≡ Err e)
 was_refused numbers why (Ok a) is = absurd cc
 was_refused numbers why (Err e) is = (e, refl)
+
+answer_is_no_refusal : (answer : Answer) (why : Refusal) → Ok answer ≡ Err why → ⊥
+answer_is_no_refusal answer why is = absurd cc
 
 ok_is_no_err : (answer : Answer) (why : BatchRefusal) → Ok answer ≡ Err why → ⊥
 ok_is_no_err answer why is = absurd cc
@@ -374,33 +377,47 @@ module _ {R W F : Type 0} (reader : read.Ghosts R) (reads : device.Ghosts R) (wr
       abbrev Entering : Task
       Entering = task.Entries token source
 
-      acts_batch : (rows : List EntryRow) → ReadsBatch (row_bytes (Some input)) rows → (kept : List Done)
+      acts_batch : (rows : List Row) (entries : List EntryRow)
+          → ReadsBatch (numbers_on c rows) (row_bytes (Some input)) rows entries → (kept : List Done)
           → KeepsNone (run Entering) kept
-          ⊎ KeepsOne (run Entering) (batch_request token source rows) made_text kept
+          ⊎ KeepsOne (run Entering) (batch_request token source entries) made_text kept
           → Acts c (Some Entering) (run Entering) kept
-      acts_batch rows reads_them kept (inl none) = inl none
-      acts_batch rows reads_them kept (inr one) = inr (rows, reads_them, one)
+      acts_batch rows entries reads_them kept (inl none) = inl none
+      acts_batch rows entries reads_them kept (inr one) = inr (rows, entries, reads_them, one)
 
-      batch_read : (o : Answered) → Enters over_files token source (row_bytes (reader.remaining x.input)) taken o new
-          → (rows : List EntryRow) × ReadsBatch (row_bytes (Some input)) rows
-          × PerformsAll over_files taken ((batch_request token source rows, o) ∷ []) new
-      batch_read o enters =
-          let steps : Steps over_files (Ok (batch_request token source enters.0, o)) taken new = enters.2 in
-          (enters.0, subst (λ bytes. ReadsBatch (row_bytes bytes) enters.0) s.reads enters.1, steps.0)
+      -- the archive was looked at, with what it held
+      batch_held : (o : Answered)
+          → (e : IsBatch over_files token source (row_bytes (reader.remaining x.input)) taken o new)
+          → ReadsBatch (numbers_on c e.rows) (row_bytes (Some input)) e.rows e.entries
+      batch_held o e =
+          let was_clean = (e.done.0 clean held.ready).clean in
+          let had_it = (held.has was_clean society c tables holds had).0 in
+          let same = e.right held.ready clean had_it.0 c had_it.1 (seen_of had_it.2) in
+          subst (λ (ns : List (Option ℕ)). ReadsBatch ns (row_bytes (Some input)) e.rows e.entries) same
+          (subst (λ bytes. ReadsBatch e.numbers (row_bytes bytes) e.rows e.entries) s.reads (e.read held.ready))
 
       batch_told : (answer : Answer)
           → Enters over_files token source (row_bytes (reader.remaining x.input)) taken (Ok answer) new
           → Tells (run Entering) (made_text answer) → FoundIn Entering society c left
-      batch_told answer enters tells_it =
-          let b = batch_read (Ok answer) enters in
-          one_told law Entering (batch_request token source b.0) made_text (acts_batch b.0 b.1) answer b.2 tells_it
+      batch_told answer (inl e) tells_it =
+          one_told law Entering (batch_request token source e.entries) made_text
+          (acts_batch e.rows e.entries (batch_held (Ok answer) e)) answer e.done.0 tells_it
+      batch_told answer (inr (inl r)) tells_it = absurd (answer_is_no_refusal answer r.why r.is)
+      batch_told answer (inr (inr none)) tells_it = absurd (answer_is_no_refusal answer _ none.0)
 
       batch_untold : (e : Refusal)
           → Enters over_files token source (row_bytes (reader.remaining x.input)) taken (Err e) new
           → seen ≡ [] → ¬ (HasDone ended) → FoundIn Entering society c left
-      batch_untold e enters none never =
-          let b = batch_read (Err e) enters in
-          one_untold law Entering (batch_request token source b.0) made_text (acts_batch b.0 b.1) e b.2 none never
+      batch_untold why (inl e) none never =
+          one_untold law Entering (batch_request token source e.entries) made_text
+          (acts_batch e.rows e.entries (batch_held (Err why) e)) why e.done.0 none never
+      batch_untold why (inr (inl r)) none never =
+          let stays = r.reads.stays clean in
+          let had_it = (held.has stays.clean society c tables holds had).0 in
+          keeps_none Entering society c left (acts_none Entering c none never)
+          (inl (had_it.0, stays.crash had_it.0 c had_it.1 (seen_of had_it.2) left may, had_it.2))
+      batch_untold why (inr (inr wants)) none never =
+          keeps_none Entering society c left (acts_none Entering c none never) (inl (same_archive wants.1))
 
     -- ---- a page
     module _ (law : ArePerformed g) (token : List ℕ) (source : ℕ) (form : TableForm) where

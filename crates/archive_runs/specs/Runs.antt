@@ -19,8 +19,8 @@ use Rattle.store.specs.Histories.{in_doubt}
 use Rattle.store.specs.Lives.{Counts}
 use Rattle.archive_input.specs.Answers.{Served}
 use Rattle.archive_input.specs.Applying.{AreServed, AreServedOver, answers, calls_of}
-use Rattle.archive_input.specs.Entering.{batch_request}
 use Rattle.archive_input.specs.Stopping.{AreAccepted, IsUpToRefusal}
+use Rattle.archive_tables.specs.RowBatches.{batch_request, numbers_on}
 use Rattle.archive_tables.specs.Entering.{page_request}
 use Rattle.page_batches.specs.Batches.{rows_on}
 use Rattle.page_entries.specs.Entries.{page_of}
@@ -80,10 +80,11 @@ KeepsOne run r text kept = (answer : Answer) × (kept ≡ (r, Ok answer) ∷ [])
 abbrev pub KeepsNone : Run → List Done → Type 0
 KeepsNone run kept = (kept ≡ []) × (run.written ≡ []) × ¬ (IsDone run)
 
--- the entries of the input are kept, all of them
-abbrev pub KeepsBatch : List ℕ → ℕ → Run → List Done → Type 0
-KeepsBatch token source run kept = (rows : List EntryRow) × ReadsBatch (row_bytes (Some run.input)) rows
-    × KeepsOne run (batch_request token source rows) made_text kept
+-- the entries of the input are kept, all of them, with the numbers that the archive had for the tokens of their places
+abbrev pub KeepsBatch : Content → List ℕ → ℕ → Run → List Done → Type 0
+KeepsBatch c token source run kept = (rows : List Row) × (entries : List EntryRow)
+    × ReadsBatch (numbers_on c rows) (row_bytes (Some run.input)) rows entries
+    × KeepsOne run (batch_request token source entries) made_text kept
 
 -- the entries of the page of the input are kept, all of them, with the places that the archive had
 abbrev pub KeepsPage : Content → List ℕ → ℕ → TableForm → Run → List Done → Type 0
@@ -102,7 +103,7 @@ KeepsFile token run kept = (forest : List Item) × IsFileOf (Some run.input) for
 abbrev pub Acts : Content → Option Task → Run → List Done → Type 0
 Acts c (Some task.Apply) run kept = KeepsNone run kept ⊎ KeepsRows c run kept
 Acts c (Some task.ApplyUntilRefused) run kept = KeepsNone run kept ⊎ KeepsUntilRefused c run kept
-Acts c (Some (task.Entries token source)) run kept = KeepsNone run kept ⊎ KeepsBatch token source run kept
+Acts c (Some (task.Entries token source)) run kept = KeepsNone run kept ⊎ KeepsBatch c token source run kept
 Acts c (Some (task.EnterTable token source form)) run kept =
     KeepsNone run kept ⊎ KeepsPage c token source form run kept
 Acts c (Some (task.Import token progress)) run kept = KeepsNone run kept ⊎ KeepsFile token run kept

@@ -58,20 +58,20 @@ use Rattle.archive_tables.specs.declared.entering.PageEnd.{PageEnd}
 use Rattle.archive_tables.specs.declared.entering.PageEnd.TheVariants.{Entered, Unread}
 use Rattle.archive_tables.specs.Looking.{AreLooked, Looks}
 
-true_is_not : (b : Bool) → b ≡ false → b ≡ true → ⊥
+pub true_is_not : (b : Bool) → b ≡ false → b ≡ true → ⊥
 true_is_not b off on = let both : false ≡ true = sym off ∙ on in absurd cc
 
 module _ {S : Type 0} (g : Ghosts S) (old looked new : Archive S g) (was_kept : old.is_lost ≡ false)
     (reads : OnlyReads g old looked) (kept : looked.is_lost ≡ false) where
   -- ---- requests after the looks
-  same_lost : looked.is_lost ≡ old.is_lost
+  pub same_lost : looked.is_lost ≡ old.is_lost
   same_lost = kept ∙ sym was_kept
 
-  same_shut : is_shut looked ≡ is_shut old
+  pub same_shut : is_shut looked ≡ is_shut old
   same_shut = ap (λ (l : Bool). shuts l looked.import) same_lost
       ∙ ap (λ (i : Option Import). shuts old.is_lost i) reads.import
 
-  same_refusal : outcome_when_shut looked ≡ outcome_when_shut old
+  pub same_refusal : outcome_when_shut looked ≡ outcome_when_shut old
   same_refusal = ap (λ (l : Bool). cond l must_reopen must_wait) same_lost
 
   still_there : HasCleanDisk (state g looked.conn) → (society : List ℕ) (c : Content)
@@ -90,7 +90,7 @@ module _ {S : Type 0} (g : Ghosts S) (old looked new : Archive S g) (was_kept : 
         clean = stays.clean;
       }
 
-  performs_all : (calls : List Done) → PerformsAll g looked calls new → PerformsAll g old calls new
+  pub performs_all : (calls : List Done) → PerformsAll g looked calls new → PerformsAll g old calls new
   performs_all calls p clean takes = performs_on calls (p clean (same_shut ∙ takes))
 
   module _ (token : List ℕ) (source : ℕ) (entries : List PageEntry) (result : Result Answer BatchRefusal)

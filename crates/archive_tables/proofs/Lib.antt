@@ -3,3 +3,4 @@ pub mod Looked
 mod Shown
 pub mod Entered
 pub mod PageLooked
+mod RowsEntered

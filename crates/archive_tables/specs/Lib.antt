@@ -3,3 +3,4 @@ pub mod Ends
 pub mod Texts
 pub mod Entering
 pub mod Looking
+pub mod RowBatches

@@ -1,4 +1,4 @@
--- What looks for the places of a page have come to: a rule of our own.
+-- What looks for the places of a page or a batch have come to: rules of our own.
 use Rattle.std.specs.Prelude.{◌≡◌, ◌⊎◌, List, Result, Ok, Err}
 use Rattle.record_text.specs.declared.refusal.RefusalKind.{RefusalKind}
 use Rattle.page_batches.specs.Looks.{Found}
@@ -12,3 +12,8 @@ Looks = Result (List Found) RefusalKind
 abbrev pub AreLooked : Looks → Looks → Type 0
 AreLooked (Ok found) right = right ≡ Ok found
 AreLooked (Err kind) right = IsFailure kind ⊎ (right ≡ Err kind)
+
+-- what was found is so; or memory was refused or the database failed
+abbrev pub IsFound : {A : Type 0} → Result A RefusalKind → (A → Type 0) → Type 0
+IsFound (Ok a) P = P a
+IsFound (Err kind) P = IsFailure kind

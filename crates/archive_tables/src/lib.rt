@@ -4,7 +4,8 @@
 //! - `checking`, `whole`, `writing`: which records an archive that is open has, a line each, its records whole, and
 //!   what is wrong with a page that would be entered on it, written as texts: for whoever keeps the archive, so nothing
 //!   is masked.
-//! - `entering`, `looking`, `request`: pages of register entries, entered on an archive that is open.
+//! - `entering`, `looking`, `request`, `row_batches`: pages and rows of register entries, entered on an archive that is
+//!   open.
 //!
 //! Callers may rely on:
 //! - to write a list, records or a check changes nothing in the archive; nothing is written unless all that is asked
@@ -18,10 +19,12 @@ mod checking;
 mod entering;
 mod looking;
 mod request;
+mod row_batches;
 mod sources;
 mod whole;
 mod writing;
 
 pub use checking::{PageFound, write_check};
 pub use entering::{PageEnd, enter_page};
+pub use row_batches::enter;
 pub use writing::{write_list, write_shown};

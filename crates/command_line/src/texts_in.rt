@@ -89,7 +89,8 @@ sends the same rows again under T gets the same line, and nothing is done twice.
 Fields of a row; one with ? may be empty:
   kind,page?,item,date?,place?,text?,role,name[,role,name..]
 The kind is BAPTISM, MARRIAGE or BURIAL, the item 1 to 999999, the place the
-number of a place; 1 to 100 mentions, each a role of the kind and a name:
+number of a place, or @TOKEN for the first number of the answer that is kept for
+TOKEN; 1 to 100 mentions, each a role of the kind and a name:
   BAPTISM   child, father, mother, godparent
   MARRIAGE  groom, bride, father-of-groom, father-of-bride, witness
   BURIAL    buried, spouse, father, mother

@@ -30,55 +30,57 @@ use Rattle.record_text.specs.declared.refusal.RefusalKind.{RefusalKind}
 use Rattle.record_text.specs.declared.refusal.RefusalKind.TheVariants.{OutOfMemory, ReadFailed}
 use Rattle.commands.proofs.Again.{one_entry_outcome}
 use Rattle.commands.specs.declared.entry_row.EntryRow.{EntryRow}
-use Rattle.request_csv.specs.Batches.{AreEntries, IsRefused, ReadsBatch, ReadsRow, placeless}
+use Rattle.request_csv.specs.Batches.{AreRead, IsRead, IsRefused, ReadsRow, ReadsRows, in_form, placeless}
+use Rattle.request_csv.specs.declared.batch_rows.BatchRow.{BatchRow}
 use Rattle.request_csv.specs.Input.{AreRows, Row}
 use Rattle.request_csv.proofs.Taking.{Took, took_first, took_none}
 
-entries_more : (rows : List Row) (entries : List EntryRow) (row : Row) (entry : EntryRow) → AreEntries rows entries
-    → ReadsRow row (Ok entry) → AreEntries (rows ++ row ∷ []) (entries ++ entry ∷ [])
-entries_more [] [] row entry h is = (is, tt)
-entries_more [] (x ∷ xs) row entry h is = absurd h
-entries_more (r ∷ rs) [] row entry h is = absurd h
-entries_more (r ∷ rs) (x ∷ xs) row entry h is = (h.0, entries_more rs xs row entry h.1 is)
+read_more : (rows : List Row) (read : List BatchRow) (row : Row) (next : BatchRow) → AreRead rows read
+    → IsRead row next → AreRead (rows ++ row ∷ []) (read ++ next ∷ [])
+read_more [] [] row next h is = (is, tt)
+read_more [] (x ∷ xs) row next h is = absurd h
+read_more (r ∷ rs) [] row next h is = absurd h
+read_more (r ∷ rs) (x ∷ xs) row next h is = (h.0, read_more rs xs row next h.1 is)
 
 -- ---- rows read so far, as many as a number
-pub record OnTheWay (known left : Option (List ℕ)) (at : State) (entries : List EntryRow) (number : ℕ) : Type 0 where
+pub record OnTheWay (known left : Option (List ℕ)) (at : State) (read : List BatchRow) (number : ℕ) : Type 0 where
   pub rows : List Row
   pub took : Took known rows at left
-  pub each : AreEntries rows entries
+  pub each : AreRead rows read
   pub count : length rows ≡ number
 
-pub at_start : (known : Option (List ℕ)) (entries : List EntryRow) → entries ≡ []
-    → OnTheWay known known st.StartRecord entries 0
-at_start known entries none =
-    subst (λ (es : List EntryRow). OnTheWay known known st.StartRecord es 0) (sym none)
+pub at_start : (known : Option (List ℕ)) (read : List BatchRow) → read ≡ []
+    → OnTheWay known known st.StartRecord read 0
+at_start known read none =
+    subst (λ (rs : List BatchRow). OnTheWay known known st.StartRecord rs 0) (sym none)
     (record { rows = []; took = took_none known; each = tt; count = refl })
 
-module _ (known left : Option (List ℕ)) (at : State) (entries : List EntryRow) (number : ℕ)
-    (w : OnTheWay known left at entries number) where
-  -- a row more, which is an entry
-  pub one_more : (row : Row) (more : List EntryRow) (rest : Option (List ℕ)) (to : State)
+module _ (known left : Option (List ℕ)) (at : State) (read : List BatchRow) (number : ℕ)
+    (w : OnTheWay known left at read number) where
+  -- a row more, whose form is that of an entry
+  pub one_more : (row : Row) (more : List BatchRow) (rest : Option (List ℕ)) (to : State)
       → Took known (w.rows ++ row ∷ []) to rest
-      → (entry : EntryRow) × ReadsRow row (Ok entry) × (more ≡ entries ++ entry ∷ [])
+      → (next : BatchRow) × IsRead row next × (more ≡ read ++ next ∷ [])
       → OnTheWay known rest to more (number + 1)
   one_more row more rest to took is = record {
     rows = w.rows ++ row ∷ [];
     took = took;
-    each = subst (AreEntries (w.rows ++ row ∷ [])) (sym is.2) (entries_more w.rows entries row is.0 w.each is.1);
+    each = subst (AreRead (w.rows ++ row ∷ [])) (sym is.2) (read_more w.rows read row is.0 w.each is.1);
     count = length-append w.rows (row ∷ []) ∙ ap (λ (n : ℕ). n + 1) w.count;
   }
 
-  pub all_read : AreRows known w.rows → ReadsBatch known entries
+  pub all_read : AreRows known w.rows → ReadsRows known read
   all_read all = (w.rows, all, w.each)
 
-  -- a row more, which is none
+  -- a row more, whose form is that of none
   pub row_refused : (row : Row) (e : Refusal) (rest : Option (List ℕ)) (to : State)
       → Took known (w.rows ++ row ∷ []) to rest
-      → (e ≡ placeless OutOfMemory) ⊎ (ReadsRow row (Err e.kind) × (e.at ≡ Some (number + 1))) → IsRefused known e
+      → (e ≡ placeless OutOfMemory) ⊎ (ReadsRow (in_form row) (Err e.kind) × (e.at ≡ Some (number + 1)))
+      → IsRefused known e
   row_refused row e rest to took (inl want) = inl want
   row_refused row e rest to took (inr is) = inr (inr (record {
     before = w.rows;
-    entries = entries;
+    read = read;
     row = row;
     first = took_first known rest (w.rows ++ row ∷ []) to took;
     each = w.each;

@@ -1,5 +1,23 @@
 -- Known bytes have one batch of entries.
-use Rattle.std.proofs.Common.{◌≡◌, ◌∙◌, ◌∷◌, ℕ, List, [], Option, None, Some, Result, Ok, Err, ap, refl, sym, subst}
+use Rattle.std.proofs.Common.{
+  ◌≡◌,
+  ◌∙◌,
+  ◌∷◌,
+  ◌+◌,
+  ℕ,
+  List,
+  [],
+  Option,
+  None,
+  Some,
+  Result,
+  Ok,
+  Err,
+  ap,
+  refl,
+  sym,
+  subst,
+}
 use Rattle.std.proofs.lemmas.Option.{same_Some}
 use Rattle.csv.specs.Machine.{Read, next_record}
 use Rattle.csv.specs.Reading.{Reached}
@@ -7,7 +25,7 @@ use Rattle.csv.specs.declared.parser.Config.{Config}
 use Rattle.csv.specs.declared.parser.State.{State}
 use Rattle.record_text.specs.declared.refusal.RefusalKind.{RefusalKind}
 use Rattle.commands.specs.declared.entry_row.EntryRow.{EntryRow}
-use Rattle.request_csv.specs.Batches.{AreEntries, ReadsBatch}
+use Rattle.request_csv.specs.Batches.{AreEntries, ReadsBatch, ReadsPlaced, ReadsRow, number_at}
 use Rattle.request_csv.specs.Input.{Row}
 use Rattle.request_csv.proofs.OnTheWay.{one_entry}
 
@@ -36,20 +54,28 @@ abbrev entry_or : EntryRow → Result EntryRow RefusalKind → EntryRow
 entry_or other (Ok entry) = entry
 entry_or other (Err kind) = other
 
-same_entries : (rows : List Row) (more others : List EntryRow) → AreEntries rows more
-    → AreEntries rows others → more ≡ others
-same_entries [] [] [] h g = refl
-same_entries [] [] (b ∷ others) h g = absurd g
-same_entries [] (a ∷ more) others h g = absurd h
-same_entries (row ∷ rows) [] others h g = absurd h
-same_entries (row ∷ rows) (a ∷ more) [] h g = absurd g
-same_entries (row ∷ rows) (a ∷ more) (b ∷ others) h g =
-    ap (λ (e : EntryRow). e ∷ more) (ap (entry_or a) (one_entry row (Ok a) (Ok b) h.0 g.0))
-    ∙ ap (λ (es : List EntryRow). b ∷ es) (same_entries rows more others h.1 g.1)
+module _ (numbers : List (Option ℕ)) where
+  same_placed : (number : Option ℕ) (row : Row) (a b : EntryRow) → ReadsPlaced number row (Ok a)
+      → ReadsPlaced number row (Ok b) → a ≡ b
+  same_placed number row a b h g =
+      let same : g.0 ≡ h.0 = same_Some g.0 h.0 (sym g.1 ∙ h.1) in
+      ap (entry_or a) (one_entry h.0 (Ok a) (Ok b) h.2 (subst (λ (own : Row). ReadsRow own (Ok b)) same g.2))
 
-pub one_batch : (bytes : List ℕ) (a b : List EntryRow) → ReadsBatch (Some bytes) a → ReadsBatch (Some bytes) b → a ≡ b
-one_batch bytes a b x y =
-    let m = x.1 in
-    let n = y.1 in
-    let same : y.0 ≡ x.0 = same_rows _ y.0 x.0 _ n.0 m.0 _ n.1 m.1 n.2 n.3 m.2 m.3 in
-    same_entries x.0 a b x.2 (subst (λ (rows : List Row). AreEntries rows b) same y.2)
+  same_entries : (at : ℕ) (rows : List Row) (more others : List EntryRow) → AreEntries numbers at rows more
+      → AreEntries numbers at rows others → more ≡ others
+  same_entries at [] [] [] h g = refl
+  same_entries at [] [] (b ∷ others) h g = absurd g
+  same_entries at [] (a ∷ more) others h g = absurd h
+  same_entries at (row ∷ rows) [] others h g = absurd h
+  same_entries at (row ∷ rows) (a ∷ more) [] h g = absurd g
+  same_entries at (row ∷ rows) (a ∷ more) (b ∷ others) h g =
+      ap (λ (e : EntryRow). e ∷ more) (same_placed (number_at numbers at) row a b h.0 g.0)
+      ∙ ap (λ (es : List EntryRow). b ∷ es) (same_entries (at + 1) rows more others h.1 g.1)
+
+  pub one_batch : (bytes : List ℕ) (rows others : List Row) (a b : List EntryRow)
+      → ReadsBatch numbers (Some bytes) rows a → ReadsBatch numbers (Some bytes) others b → a ≡ b
+  one_batch bytes rows others a b x y =
+      let m = x.0 in
+      let n = y.0 in
+      let same : others ≡ rows = same_rows _ others rows _ n.0 m.0 _ n.1 m.1 n.2 n.3 m.2 m.3 in
+      same_entries 0 rows a b x.1 (subst (λ (rs : List Row). AreEntries numbers 0 rs b) same y.1)

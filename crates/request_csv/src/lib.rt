@@ -1,6 +1,7 @@
 //! Rows of CSV that are no requests yet: batches of register entries as they are read, and which field a refusal means.
 //!
-//! - `fields`, `laws`, `reading`: the rows of a batch of register entries, read as CSV.
+//! - `batch_rows`, `fields`, `laws`, `reading`: the rows of a batch of register entries, read as CSV, and their entries
+//!   with the numbers that an archive has for their references.
 //! - `columns`, `finding`, `forms`, `line`, `sentences`: what is wrong with a row that was refused, as one line for who
 //!   wrote it.
 //!
@@ -11,6 +12,7 @@
 //!   row itself stands in it.
 #![tactic(auto)]
 
+mod batch_rows;
 mod columns;
 mod fields;
 mod finding;
@@ -20,6 +22,7 @@ mod line;
 mod reading;
 mod sentences;
 
+pub use batch_rows::{BatchRow, BatchRows};
 pub use fields::text_fields;
 pub use line::fault_line;
 pub use reading::{read_entries, reading_failed};

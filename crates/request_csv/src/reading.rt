@@ -1,4 +1,4 @@
-//! All rows of an input, read as the register entries of a batch.
+//! All rows of an input, read as rows of a batch of register entries.
 
 ghost use Rattle.std.specs.Prelude.{
   ◌≡◌,
@@ -6,6 +6,7 @@ ghost use Rattle.std.specs.Prelude.{
   ◌++◌,
   ◌∷◌,
   [],
+  false,
   true,
   Err,
   IfErr,
@@ -32,28 +33,35 @@ ghost use Rattle.csv.specs.declared.reader.Trim.TheVariants as trim;
 ghost use Rattle.devices.specs.Devices.{Rose};
 ghost use Rattle.record_text.specs.declared.refusal.RefusalKind.TheVariants as refusal;
 ghost use Rattle.commands.specs.Rows.{Decided, ReadsEntry, is_want};
-ghost use Rattle.commands.specs.declared.entry_row.EntryRow.{EntryRow};
-ghost use Rattle.request_csv.specs.Batches.{IsRefused, ReadsBatch, ReadsRow, placeless};
+ghost use Rattle.commands.specs.declared.entry_row.EntryRow.{EntryRow as SpecEntry};
+ghost use Rattle.request_csv.specs.Batches.{IsRead, IsRefused, ReadsRow, ReadsRows, in_form, placeless};
+ghost use Rattle.request_csv.specs.declared.batch_rows.BatchRow.{BatchRow as SpecRow};
 ghost use Rattle.request_csv.specs.Input.{row_bytes};
 
+use crate::batch_rows::{BatchRow, BatchRows};
 use crate::fields::text_fields;
-use commands::{EntryRow, EntryRows};
+use commands::EntryRow;
 use csv::{ByteRecord, Reader, ReaderBuilder};
 use devices::{Device, has_risen};
 use record_text::{Refusal, RefusalKind};
-use std::alloc::Global;
+use row_references::{copied, has_place_reference, with_place};
+use std::alloc::{AllocError, Global};
 use std::io::{ErrorKind, Read};
 
+/// The number in place of a reference where only the form of a row is judged.
+const ANY_NUMBER: u32 = 1;
+
 /// Reads the rows of a batch of register entries. A row is kind, page, item, date, place, text, and then role and name
-/// of each mention, 1 to 100. There is no header row; empty lines are no rows, and a byte order mark before the first
-/// is taken off.
+/// of each mention, 1 to 100; its place may be a reference. There is no header row; empty lines are no rows, and a byte
+/// order mark before the first is taken off.
 ///
-/// Refused is the first row that is no entry, with its number from 1, in this order: 90: a field is not UTF-8. 92:
+/// Refused is the first row that is no entry, whatever number a reference has, with its number from 1, in this order:
+/// 90: a field is not UTF-8. 92:
 /// there are too few or too many fields, or a role without a name. 90: a field is not of its type. Without a place come
 /// 94: the reader failed in this call, by its count; and 1: memory was refused, the reader did not count its error, or
 /// there are more rows than numbers of 32 bits.
-pub fn read_entries<R: Read + Device>(alloc: Global, input: &mut R) -> Result<EntryRows, Refusal>
-    ensures read { IfOk result (ReadsBatch (row_bytes (R.remaining input.old))) }
+pub fn read_entries<R: Read + Device>(alloc: Global, input: &mut R) -> Result<BatchRows, Refusal>
+    ensures read { IfOk result (ReadsRows (row_bytes (R.remaining input.old))) }
     ensures refused { IfErr result (IsRefused (row_bytes (R.remaining input.old))) }
     ensures failed { IfErr result (λ e. e.kind ≡ refusal.ReadFailed → Rose (R.failed input.old) (R.failed input.new)) }
 {
@@ -76,40 +84,40 @@ fn blamed(why: Refusal, risen: bool) -> Refusal
 }
 
 /// The same over a reader that this call uses up, which is blamed at each error that is not out of memory.
-fn rows_of<R: Read + Drop>(alloc: Global, input: R) -> Result<EntryRows, Refusal>
-    ensures read { IfOk result (ReadsBatch (row_bytes (R.remaining input))) }
+fn rows_of<R: Read + Drop>(alloc: Global, input: R) -> Result<BatchRows, Refusal>
+    ensures read { IfOk result (ReadsRows (row_bytes (R.remaining input))) }
     ensures refused { IfErr result (IsRefused (row_bytes (R.remaining input))) }
 {
     let mut rows = ReaderBuilder::new()
         .has_headers(false)
         .flexible(true)
         .from_reader(alloc, input);
-    let mut entries = Vec::new(alloc);
-    match add_rows(alloc, &mut rows, &mut entries) {
-        Ok(()) => Ok(EntryRows::new(entries)),
+    let mut read = Vec::new(alloc);
+    match add_rows(alloc, &mut rows, &mut read) {
+        Ok(()) => Ok(BatchRows::new(read)),
         Err(why) => Err(why),
     }
 }
 
-/// Puts the entries of all rows into a list without any. At a refusal those before the refused row are in it.
+/// Puts all rows into a list without any. At a refusal those before the refused row are in it.
 fn add_rows<R: Read>(
     alloc: Global,
     rows: &mut Reader<R>,
-    entries: &mut Vec<EntryRow>,
+    read: &mut Vec<BatchRow>,
 ) -> Result<(), Refusal>
     requires ready { Ready rows.old }
     requires plain { reader_trim rows.old ≡ trim.None }
     requires config { reader_config rows.old ≡ default_config }
     requires flexible { is_flexible rows.old ≡ true }
     requires start { reader_state rows.old ≡ state.StartRecord }
-    requires none { entries.old.items ≡ [] }
-    ensures read { OnOk result (ReadsBatch (source_of R.remaining rows.old) entries.new.items) }
+    requires none { read.old.items ≡ [] }
+    ensures read { OnOk result (ReadsRows (source_of R.remaining rows.old) read.new.items) }
     ensures refused { IfErr result (IsRefused (source_of R.remaining rows.old)) }
 {
     let mut row = ByteRecord::new(alloc);
     'rows: for number in 0..u32::MAX {
         match rows.read_byte_record(&mut row) {
-            Ok(true) => match add_row(alloc, &row, number + 1, entries) {
+            Ok(true) => match add_row(alloc, &row, number + 1, read) {
                 Ok(()) => {}
                 Err(why) => return Err(why),
             },
@@ -120,37 +128,37 @@ fn add_rows<R: Read>(
     Err(Refusal::from(RefusalKind::OutOfMemory))
 }
 
-/// Puts the entry of the row with this number after those that are there.
+/// Puts the row with this number after those that are there.
 fn add_row(
     alloc: Global,
     row: &ByteRecord,
     number: u32,
-    entries: &mut Vec<EntryRow>,
+    read: &mut Vec<BatchRow>,
 ) -> Result<(), Refusal>
-    ensures added { OnOk result ((entry : EntryRow) × ReadsRow (fields_of row.now) (Ok entry)
-        × (entries.new.items ≡ entries.old.items ++ entry ∷ [])) }
+    ensures added { OnOk result ((next : SpecRow) × IsRead (fields_of row.now) next
+        × (read.new.items ≡ read.old.items ++ next ∷ [])) }
     ensures refused { IfErr result (λ e. (e ≡ placeless refusal.OutOfMemory)
-        ⊎ (ReadsRow (fields_of row.now) (Err e.kind) × (e.at ≡ Some number))) }
+        ⊎ (ReadsRow (in_form (fields_of row.now)) (Err e.kind) × (e.at ≡ Some number))) }
 {
-    match entry_of(alloc, row) {
-        Ok(entry) => add(entry, entries),
+    match read_row(alloc, row) {
+        Ok(next) => add(next, read),
         Err(kind) => Err(refused_row(kind, number)),
     }
 }
 
-/// Puts an entry after those that are there. Refused only if out of memory.
-fn add(entry: EntryRow, entries: &mut Vec<EntryRow>) -> Result<(), Refusal>
-    ensures added { OnOk result (entries.new.items ≡ entries.old.items ++ entry ∷ []) }
+/// Puts a row after those that are there. Refused only if out of memory.
+fn add(next: BatchRow, read: &mut Vec<BatchRow>) -> Result<(), Refusal>
+    ensures added { OnOk result (read.new.items ≡ read.old.items ++ next ∷ []) }
     ensures refused { IfErr result (λ e. e ≡ placeless refusal.OutOfMemory) }
 {
-    match entries.push(entry) {
+    match read.push(next) {
         Ok(()) => Ok(()),
         Err(_) => Err(Refusal::from(RefusalKind::OutOfMemory)),
     }
 }
 
 /// The refusal of the row with this number. Want of memory is no fault of a row.
-fn refused_row(kind: RefusalKind, number: u32) -> Refusal
+pub(crate) fn refused_row(kind: RefusalKind, number: u32) -> Refusal
     ensures { result ≡ (if is_want kind then placeless refusal.OutOfMemory else record {
       kind = kind;
       at = Some number;
@@ -165,8 +173,44 @@ fn refused_row(kind: RefusalKind, number: u32) -> Refusal
     }
 }
 
-/// The entry of a row.
-fn entry_of(alloc: Global, row: &ByteRecord) -> Result<EntryRow, RefusalKind>
+/// A row as it is read: its entry, or the row with the entry of its form where its place is a reference.
+fn read_row(alloc: Global, row: &ByteRecord) -> Result<BatchRow, RefusalKind>
+    ensures read { IfOk result (IsRead (fields_of row.now)) }
+    ensures refused { IfErr result (λ kind. is_want kind ≡ false
+        → ReadsRow (in_form (fields_of row.now)) (Err kind)) }
+{
+    match entry_in_form(alloc, row) {
+        Ok(entry) => Ok(row_with(alloc, row, entry)?),
+        Err(kind) => Err(kind),
+    }
+}
+
+/// A row with the entry of its form.
+fn row_with(alloc: Global, row: &ByteRecord, entry: EntryRow) -> Result<BatchRow, AllocError>
+    requires form { ReadsRow (in_form (fields_of row.now)) (Ok entry) }
+    ensures read { IfOk result (IsRead (fields_of row.now)) }
+{
+    if has_place_reference(row) {
+        Ok(BatchRow::Referring(copied(alloc, row)?, entry))
+    } else {
+        Ok(BatchRow::Entry(entry))
+    }
+}
+
+/// The entry of a row with the number 1 in place of its reference.
+fn entry_in_form(alloc: Global, row: &ByteRecord) -> Result<EntryRow, RefusalKind>
+    ensures { Decided result (ReadsRow (in_form (fields_of row.now))) }
+{
+    if has_place_reference(row) {
+        let plain = with_place(alloc, row, ANY_NUMBER)?;
+        entry_of(alloc, &plain)
+    } else {
+        entry_of(alloc, row)
+    }
+}
+
+/// The entry of a row without a reference.
+pub(crate) fn entry_of(alloc: Global, row: &ByteRecord) -> Result<EntryRow, RefusalKind>
     ensures { Decided result (ReadsRow (fields_of row.now)) }
 {
     match text_fields(alloc, row)? {

@@ -1,3 +1,4 @@
+pub mod Entries
 pub mod Naming
 pub mod References
 pub mod Words

@@ -128,7 +128,7 @@ fn field_or<'a>(row: &'a ByteRecord, i: usize, at: usize, field: &'a [u8]) -> &'
 }
 
 /// The same row in memory of its own. Refused only if out of memory.
-pub(crate) fn copied(alloc: Global, row: &ByteRecord) -> Result<ByteRecord, AllocError>
+pub fn copied(alloc: Global, row: &ByteRecord) -> Result<ByteRecord, AllocError>
     ensures { IfOk result (λ r. fields_of r ≡ fields_of row.now) }
 {
     let fields = all_fields(alloc, row)?;

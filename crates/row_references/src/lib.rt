@@ -7,13 +7,15 @@
 //! are; a row without references stays as it is.
 #![tactic(auto)]
 
+mod entries;
 mod fields;
 pub mod laws;
 mod naming;
 mod numbering;
 mod words;
 
-pub use fields::token_in;
+pub use entries::{has_place_reference, place_number, with_place};
+pub use fields::{copied, token_in};
 pub use naming::has_references;
 pub use numbering::{numbered, with_any_numbers};
 pub use words::{NumberWord, number_in};

@@ -37,7 +37,7 @@ pub fn number_in<V: View>(
 }
 
 /// The first number of the answer that is stored for a token. `None`: there is none, or it made nothing.
-fn kept_number<V: View>(
+pub(crate) fn kept_number<V: View>(
     alloc: Global,
     view: &mut V,
     token: &Token,

@@ -36,6 +36,7 @@ use Rattle.archive_tables.specs.Checks.{EndsChecking}
 use Rattle.archive_tables.specs.Ends.{EndsWriting, OnRead}
 use Rattle.archive_tables.specs.Texts.{list_of, shown_text}
 use Rattle.archive_tables.specs.Entering.{EntersPage}
+use Rattle.archive_tables.specs.RowBatches.{Enters, IsNoBatch}
 use Rattle.archive_state.specs.Content.{Content}
 use Rattle.archive_state.specs.Looks.{is_failure}
 use Rattle.request_csv.specs.Input.{row_bytes}
@@ -59,7 +60,6 @@ use Rattle.archive_output.specs.declared.sheet.Sheet.{Sheet}
 use Rattle.store.specs.Calls.{Reads}
 use Rattle.store.specs.Histories.{has_broken}
 use Rattle.store.specs.Telling.{TellsImport}
-use Rattle.archive_input.specs.Entering.{Enters, IsNoBatch}
 use Rattle.archive_input.specs.RowByRow.{AppliedInTurn, EndedInTurn, Moment as RowMoment}
 use Rattle.archive_input.specs.Stopping.{AppliedUntilRefused, EndedUntilRefused}
 use Rattle.tasks.specs.Checking.{Checking, IsText, IsUnread as IsUnreadTable, SaysFound, as_checked}

@@ -6,14 +6,14 @@ ghost use Rattle.request_csv.specs.Input.{row_bytes};
 ghost use Rattle.devices.specs.Devices.{Rose};
 ghost use Rattle.receipts.specs.declared.answer.Answer.{Answer as SpecAnswer};
 ghost use Rattle.record_text.specs.declared.refusal.RefusalKind.{RefusalKind as SpecKind};
-ghost use Rattle.archive_input.specs.Entering.{Enters, IsNoBatch};
+ghost use Rattle.archive_tables.specs.RowBatches.{Enters, IsNoBatch};
 ghost use Rattle.tasks.specs.Parts.{IsPrintedPart};
 ghost use Rattle.tasks.specs.Status.{placeless_text};
 ghost use Rattle.tasks.specs.Texts.{made_text};
 
 use crate::status::placeless;
-use archive_input::enter;
 use archive_output::write_text;
+use archive_tables::enter;
 use devices::Device;
 use receipts::{Answer, Token};
 use record_text::{RefusalKind, RefusalText, Unit};
@@ -23,7 +23,7 @@ use std::io::{Read, Write};
 use store::Archive;
 
 /// Enters the rows of the input as a batch of a source, under a token, and prints how many entries were made, with the
-/// number of the first. Refusals as of `archive_input::enter`, with the row; nothing is printed then. 95: the output
+/// number of the first. Refusals as of `archive_tables::enter`, with the row; nothing is printed then. 95: the output
 /// failed. 1: no memory was found for the line. At these two the batch was entered, and of the line a prefix may be
 /// printed.
 pub(crate) fn enter_batch<S: Alter, R: Read + Device, W: Write + Device>(

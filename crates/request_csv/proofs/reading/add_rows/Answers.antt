@@ -10,7 +10,7 @@ pub rows-init : goal.rows-init
 rows-init g c =
     let q = c.requires in
     let known = source_of g.R.Read.remaining c.args.rows.now in
-    let none = c.args.entries.now.items in
+    let none = c.args.read.now.items in
     record {
       ready = q.ready;
       plain = q.plain;

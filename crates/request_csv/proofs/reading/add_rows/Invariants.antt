@@ -11,5 +11,5 @@ invariant-rows g l = record {
   config : reader_config l.rows ≡ default_config;
   flexible : is_flexible l.rows ≡ true;
   way : OnTheWay (source_of g.R.Read.remaining l.fn.rows) (source_of g.R.Read.remaining l.rows)
-      (reader_state l.rows) l.entries.items l.number;
+      (reader_state l.rows) l.read.items l.number;
 }
