@@ -3,11 +3,12 @@
     python3 tests/long_browsers.py [--parish COMMAND] [--only WORD] [--pictures FOLDER] [ARCHIVES [SEED]]
 
 A drawn archive of ARCHIVES small ones (200, some 1,000 persons; shown/drawn.py) is shown. Each link of each page is
-followed: none is dead, no page has a word that only hidden records hold, and only a pedigree has over 64 KB. Each page
-is read by `tidy`, which may warn of nothing. Of each kind of page one is read by `w3m` and `lynx`, which have to show
-all its words in their order, and by headless Chromium at 1,280 and 360 pixels, in light and in dark colours: nothing is
-wider than the window, each text has a contrast of 4.5 to its background, each link is reached by the keyboard, and the
-page reports no error. `--pictures` writes two pictures of a small archive. Debian has all of it:
+followed: none is dead, no page has a word that only hidden records hold, and only pedigrees and the first page, which
+lists all registers and surnames, have over 64 KB. Each page is read by `tidy`, which may warn of nothing. Of each kind
+of page one is read by `w3m` and `lynx`, which have to show all its words in their order, and by headless Chromium at
+1,280 and 360 pixels, in light and in dark colours: nothing is wider than the window, each text has a contrast of 4.5 to
+its background, each link is reached by the keyboard, and the page reports no error. `--pictures` writes two pictures of
+a small archive. Debian has all of it:
 `apt-get install --no-install-recommends chromium w3m lynx tidy`. The last line is `N passed, M failed`.
 """
 
@@ -158,7 +159,8 @@ def links_and_words(pages, drawn):
     for target, body in pages.items():
         found = set(WORD.findall(body)) & drawn.hidden
         demand(not found, f"{target} has {sorted(found)[:3]}, which are hidden")
-        demand(len(body) < LARGEST or target.startswith("/pedigree/"), f"{target} has {len(body)} bytes")
+        whole = target == "/" or target.startswith("/pedigree/")
+        demand(len(body) < LARGEST or whole, f"{target} has {len(body)} bytes")
     words = set(WORD.findall(b"".join(pages.values())))
     few = min(len(words), len(drawn.hidden)) < 10 * drawn.archives
     demand(not few, f"only {len(words)} words, and {len(drawn.hidden)} hidden ones")

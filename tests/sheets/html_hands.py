@@ -37,6 +37,8 @@ BY_HAND = (
         f"<h1>{SOCIETY}</h1>" + FORM.format("")
         + "<ul><li>Persons: 3</li><li>Families: 1</li><li>Registers: 1</li></ul>"
         + '<section><h2>Registers</h2><ul><li><a href="/register/9">Ashby</a></li></ul></section>'
+        + '<section><h2>Surnames</h2><ul><li>L<ul><li><a href="/surname?name=Lee">Lee</a>: 2</li></ul></li>'
+        + '<li>R<ul><li><a href="/surname?name=Ray">Ray</a>: 1</li></ul></li></ul></section>'
     ))),
     (("register", 9, 1), page("Ashby", (
         f'<h1>Ashby</h1><p class="note">Register 9. Entries: 1</p><ul>{ENTRY}</ul>{ONE_PAGE}'
@@ -90,3 +92,24 @@ PAGES_OF_LONG = tuple(
     for page in (0, 1, 2, 3, 4)
 )
 OF_LEES = LEE_FAMILY
+
+# Surnames by letter: of the search key, written as the last name has them, and without a letter at the end.
+NAMED = (
+    ("Ann /Örtli/", "Ann /ORTLI/"), ("Tom /o’Neil/",), ("Eva /van der Berg/",), ("Eva",),
+    ("Jo /VAN DER BERG/", "Jo /Van der Berg/"), ("Al /1st/",), ("X /?/",), ("И. /Яков/",),
+)
+LETTERS = {number: Person(names) for number, names in enumerate(NAMED, 1)}
+LETTERS |= {number + 10: Event(number, "DEAT") for number in LETTERS}
+OF_LETTERS = page("Reading room", (
+    f"<h1>{SOCIETY}</h1>" + FORM.format("")
+    + "<ul><li>Persons: 8</li><li>Families: 0</li><li>Registers: 0</li></ul>"
+    + "<section><h2>Surnames</h2><ul>"
+    + '<li>1<ul><li><a href="/surname?name=1st">1st</a>: 1</li></ul></li>'
+    + '<li>O<ul><li><a href="/surname?name=ORTLI">ORTLI</a>: 1</li>'
+    + '<li><a href="/surname?name=o%E2%80%99Neil">o’Neil</a>: 1</li>'
+    + '<li><a href="/surname?name=%C3%96rtli">Örtli</a>: 1</li></ul></li>'
+    + '<li>V<ul><li><a href="/surname?name=Van+der+Berg">Van der Berg</a>: 2</li></ul></li>'
+    + '<li>я<ul><li><a href="/surname?name=%D0%AF%D0%BA%D0%BE%D0%B2">Яков</a>: 1</li></ul></li>'
+    + '<li>?<ul><li><a href="/surname?name=">?</a>: 1</li><li><a href="/surname?name=%3F">?</a>: 1</li></ul></li>'
+    + "</ul></section>"
+))

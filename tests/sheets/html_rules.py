@@ -17,6 +17,7 @@ SOCIETY = "Kent & \"Sons'\" <Society>"
 MARKS = {"&": "&amp;", "<": "&lt;", ">": "&gt;", '"': "&quot;", "'": "&#39;"}
 NO_PAGE = "no page\n"
 EACH = 50
+LAST = "\U0010ffff"  # comes after all letters
 
 
 def text(words: str) -> str:
@@ -184,17 +185,39 @@ class Pages:
         head = element("h1", text(title)) + note(f"Register {number}. Entries: {len(entries)}")
         return framed(title, head + listed)
 
-    def surname(self, of: str, page: int) -> str | None:
-        called = [
+    def called(self, of: str) -> list[int]:
+        return [
             number
             for number, person in self.sheets.of(Person)
             if any(surname(name).casefold() == of.casefold() for name in person.names)
         ]
-        address = f"/surname?{urllib.parse.urlencode({'name': of})}&"
-        listed = self.listed(address, page, [item(self.person_link(number)) for number in called])
+
+    @staticmethod
+    def surname_address(of: str) -> str:
+        return f"/surname?{urllib.parse.urlencode({'name': of})}"
+
+    def surname(self, of: str, page: int) -> str | None:
+        called = self.called(of)
+        listed = self.listed(f"{self.surname_address(of)}&", page, [item(self.person_link(n)) for n in called])
         if listed is None:
             return None
         return framed(of or "?", element("h1", text(of or "?")) + note(f"Persons: {len(called)}") + listed)
+
+    def surnames(self) -> list[str]:
+        """A list for each letter: the first of the search keys of its surnames; the last one of those without a key."""
+        written = {}
+        for _, person in self.sheets.of(Person):
+            for of in map(surname, person.names):
+                letter = (keys.words(of) or [LAST])[0][0]
+                written[letter, of.casefold()] = of
+        lists = {}
+        for (letter, _), of in sorted(written.items()):
+            shown = item(link(self.surname_address(of), of or "?"), f": {len(self.called(of))}")
+            lists.setdefault(letter, []).append(shown)
+        return [
+            item("?" if letter == LAST else letter.upper() if letter.isascii() else letter, element("ul", "".join(own)))
+            for letter, own in lists.items()
+        ]
 
     def found(self, asked: str) -> list[str]:
         wanted = keys.words(asked)
@@ -230,6 +253,7 @@ class Pages:
             form(""),
             element("ul", "".join(item(f"{name}: {count}") for name, count in named)),
             section("Registers", registers),
+            section("Surnames", self.surnames()),
         )))
 
     # ---- what is answered

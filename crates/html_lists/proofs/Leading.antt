@@ -16,9 +16,10 @@ use Rattle.std.proofs.Common.{
   flat_map,
   length,
 }
-use Rattle.std.specs.Prelude.{◌&&◌, IfSome, nat_lt, option_map}
+use Rattle.std.specs.Prelude.{◌&&◌, ◌==◌, if◌then◌else◌, IfSome, nat_lt, option_map}
 use Rattle.std.specs.FinMap.{get}
 use Rattle.std.specs.List.{list_all}
+use Rattle.std.specs.Map.{values_of}
 use Rattle.record_kinds.specs.Model as model
 use Rattle.record_kinds.specs.declared.record.Record.{Record}
 use Rattle.record_kinds.specs.declared.record.Record.TheVariants as kind
@@ -29,7 +30,7 @@ use Rattle.sheets.specs.Gathered.{Gathered, gathered}
 use Rattle.html_text.specs.declared.names.Element.TheVariants as element
 use Rattle.html_parts.specs.declared.part.Part.{Part}
 use Rattle.html_parts.specs.declared.part.Part.TheVariants as part
-use Rattle.html_parts.specs.Building.{element_parts, form_parts}
+use Rattle.html_parts.specs.Building.{element_parts, form_parts, section_parts}
 use Rattle.html_parts.specs.Frame.{frame_parts}
 use Rattle.html_pages.specs.Showing.{IsSourceAt, LeadToShown}
 use Rattle.html_pages.specs.Called.{called}
@@ -44,8 +45,27 @@ use Rattle.html_pages.proofs.Leading.{
   to_person,
   to_register,
 }
-use Rattle.html_lists.specs.Home.{counts_parts, home_page, home_parts, register_at, register_item, registers_parts}
+use Rattle.html_lists.specs.Home.{
+  counts_parts,
+  home_page,
+  home_parts,
+  lists_parts,
+  register_at,
+  register_item,
+  registers_parts,
+}
 use Rattle.html_lists.specs.Labels.{label_word}
+use Rattle.html_lists.specs.Letters as letters
+use Rattle.html_lists.specs.Letters.{
+  arranged,
+  begin_parts,
+  last_parts,
+  letter_of,
+  surname_item,
+  surnames_in,
+  surnames_parts,
+  turn_parts,
+}
 use Rattle.html_lists.specs.Paging.{
   after_parts,
   before_parts,
@@ -97,12 +117,45 @@ source_leads : (at : ℕ → Option Record) (k : ℕ) (r : Option Record) → at
 source_leads at k (Some (kind.Source s)) is = (tt, ((s, is), (tt, (tt, (tt, tt)))))
 source_leads at k r is = tt
 
+-- a surname leads to its page, which is there whoever has it
+item_leads_on : (g : Gathered) (surname : List ℕ) → LeadToShown g.at (surname_item g surname)
+item_leads_on g surname = (tt, (tt, (tt, (tt, (tt, (tt, (tt, tt)))))))
+
+turn_leads : (at : ℕ → Option Record) (last : Option ℕ) (letter : ℕ) → LeadToShown at (turn_parts last letter)
+turn_leads at None letter = (tt, (tt, (tt, tt)))
+turn_leads at (Some last) letter = turned (last == letter)
+  where
+    turned : (b : Bool) → LeadToShown at (if b then [] else letters.end_parts ++ begin_parts letter)
+    turned true = tt
+    turned false = (tt, (tt, (tt, (tt, (tt, tt)))))
+
+last_leads : (at : ℕ → Option Record) (last : Option ℕ) → LeadToShown at (last_parts last)
+last_leads at None = tt
+last_leads at (Some last) = (tt, (tt, tt))
+
+letters_lead : (g : Gathered) (last : Option ℕ) (ss : List (List ℕ))
+    → LeadToShown g.at (letters.after_parts g last ss)
+letters_lead g last [] = last_leads g.at last
+letters_lead g last (s ∷ ss) = joined g.at (turn_parts last (letter_of s)) _ (turn_leads g.at last (letter_of s))
+    (joined g.at (surname_item g s) _ (item_leads_on g s) (letters_lead g (Some (letter_of s)) ss))
+
+sectioned : (at : ℕ → Option Record) (heading : List ℕ) (parts : List Part) → LeadToShown at parts
+    → LeadToShown at (section_parts heading parts)
+sectioned at heading [] h = tt
+sectioned at heading (p ∷ ps) h = (tt, (tt, (tt, (tt, (tt, joined at (p ∷ ps) _ h (tt, (tt, tt)))))))
+
+surnames_lead : (g : Gathered) → LeadToShown g.at (surnames_parts g)
+surnames_lead g = sectioned g.at (label_word label.Surnames) _
+    (letters_lead g None (values_of (arranged (surnames_in g))))
+
 home_parts_lead : (g : Gathered) (society : List ℕ) → LeadToShown g.at (home_parts g society)
 home_parts_lead g society =
-    plain g.at (element_parts element.H1 society) (form_parts [] ++ (counts_parts g ++ registers_parts g)) refl
-    (plain g.at (form_parts []) (counts_parts g ++ registers_parts g) refl
-    (plain g.at (counts_parts g) (registers_parts g) refl
-    (listed g.at (label_word label.Registers) (register_at g) (λ k. source_leads g.at k (g.at k) refl) g.sources)))
+    plain g.at (element_parts element.H1 society) (form_parts [] ++ (counts_parts g ++ lists_parts g)) refl
+    (plain g.at (form_parts []) (counts_parts g ++ lists_parts g) refl
+    (plain g.at (counts_parts g) (lists_parts g) refl
+    (joined g.at (registers_parts g) (surnames_parts g)
+    (listed g.at (label_word label.Registers) (register_at g) (λ k. source_leads g.at k (g.at k) refl) g.sources)
+    (surnames_lead g))))
 
 pub home_leads : (m : Records) (society : List ℕ) → LeadToShown (get m) (home_page m society)
 home_leads m society = framed_leads (get m) society (label_word label.Home) (home_parts (gathered m) society)

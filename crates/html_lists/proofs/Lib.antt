@@ -1,3 +1,4 @@
+pub mod Arranging
 pub mod Found
 pub mod Leading
 pub mod Places

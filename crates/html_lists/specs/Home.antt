@@ -13,6 +13,7 @@ use Rattle.html_parts.specs.Building.{element_parts, form_parts, link_parts}
 use Rattle.html_parts.specs.Frame.{frame_parts}
 use Rattle.html_pages.specs.Items.{item, section}
 use Rattle.html_lists.specs.Labels.{label_word}
+use Rattle.html_lists.specs.Letters.{surnames_parts}
 use Rattle.html_lists.specs.declared.label.Label.{Label}
 use Rattle.html_lists.specs.declared.label.Label.TheVariants as label
 
@@ -39,10 +40,13 @@ abbrev pub registers_parts : Gathered → List Part
 registers_parts g = section (label_word label.Registers) (register_at g) g.sources
 
 -- ---- the page
--- the society's name, the field of a search, the counts, and the registers by number
+-- the registers by number, and the surnames by letter
+abbrev pub lists_parts : Gathered → List Part
+lists_parts g = registers_parts g ++ surnames_parts g
+
+-- the society's name, the field of a search, the counts, and these lists
 abbrev pub home_parts : Gathered → List ℕ → List Part
-home_parts g society = element_parts element.H1 society ++ (form_parts [] ++ (counts_parts g
-    ++ registers_parts g))
+home_parts g society = element_parts element.H1 society ++ (form_parts [] ++ (counts_parts g ++ lists_parts g))
 
 abbrev pub home_page : Records → List ℕ → List Part
 home_page m society = frame_parts society (label_word label.Home) (home_parts (gathered m) society)

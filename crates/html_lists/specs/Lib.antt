@@ -1,6 +1,7 @@
 pub mod Labels
 pub mod Paging
 pub mod Registers
-pub mod Home
 pub mod Surnames
+pub mod Letters
+pub mod Home
 pub mod Searches

@@ -1,4 +1,4 @@
-//! The first page: what it counts, the field of a search, and the registers.
+//! The first page: what it counts, the field of a search, the registers, and the surnames.
 
 ghost use Rattle.std.specs.Prelude.{◌≡◌, ◌++◌, IfOk, OnOk, Some, length, string_bytes};
 ghost use Rattle.std.specs.FinMap as map;
@@ -8,6 +8,7 @@ ghost use Rattle.html_parts.specs.Parts.{page_bytes};
 ghost use Rattle.html_lists.specs.Home as home;
 
 use crate::label::Label;
+use crate::letters::push_surnames;
 use crate::registers::title_of;
 use html_pages::{HtmlLibrary, Listing, push_section};
 use html_parts::{Parts, Route, Words, framed};
@@ -36,7 +37,14 @@ fn push_home(
     out.element(alloc, Element::H1, society)?;
     out.form(alloc, "")?;
     push_counts(alloc, out, library)?;
-    push_registers(alloc, out, library)
+    push_lists(alloc, out, library)
+}
+
+fn push_lists(alloc: Global, out: &mut Parts, library: &HtmlLibrary) -> Result<(), AllocError>
+    ensures { OnOk result (out.new ≡ out.old ++ home.lists_parts (gathered library.now.records)) }
+{
+    push_registers(alloc, out, library)?;
+    push_surnames(alloc, out, library)
 }
 
 /// Appends the section of the registers.

@@ -19,6 +19,7 @@ pub(crate) enum Label {
     Search,
     /// How many registers there are.
     Sources,
+    Surnames,
 }
 
 impl Label {
@@ -36,6 +37,7 @@ impl Label {
             Label::Registers => "Registers",
             Label::Search => "Search",
             Label::Sources => "Registers: ",
+            Label::Surnames => "Surnames",
         }
     }
 }

@@ -4,7 +4,8 @@
 //! It uses `html_pages`, whose `HtmlLibrary` of the masked records is all that it can see, and its lists and links.
 //!
 //! - `label`, `paging`: the words of these pages, and pages of 50 items.
-//! - `first_page`, `naming`, `registers`, `searches`, `surnames`: the pages, each as parts that are appended.
+//! - `first_page`, `letters`, `naming`, `registers`, `searches`, `surnames`: the pages, each as parts that are
+//!   appended.
 //! - `laws`: what holds of the pages, whoever makes them.
 //!
 //! Callers may rely on: a page is that of its definition over the masked records, the name of the society and what is
@@ -14,6 +15,7 @@
 mod first_page;
 mod label;
 pub mod laws;
+mod letters;
 mod naming;
 mod paging;
 mod registers;

@@ -51,7 +51,7 @@ fn shown_page(
 }
 
 /// A surname as a title; `?` for an empty one.
-fn titled(of: &str) -> &str
+pub(crate) fn titled(of: &str) -> &str
     ensures { result.now ≡ surnames.titled of.now }
 {
     if of.is_empty() { "?" } else { of }
