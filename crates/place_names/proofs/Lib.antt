@@ -1,0 +1,12 @@
+pub mod Alike
+pub mod Climbed
+pub mod Counted
+pub mod Entered
+pub mod Leaving
+pub mod Mending
+pub mod Reaching
+pub mod Referring
+pub mod Refusing
+pub mod Rereading
+pub mod Resounding
+pub mod Shaping
