@@ -1,0 +1,3 @@
+pub mod Sitting
+pub mod Visiting
+pub mod Waiting

@@ -2,7 +2,7 @@
 
 ghost use Rattle.std.specs.Prelude.{◌≡◌, IfOk, IfSome};
 
-use crate::turns::{Left, go_on};
+use crate::turns::go_on;
 use mio::net::{TcpListener, TcpStream};
 use mio::{Events, Interest, Poll, Token};
 use room_requests::Answering;
@@ -11,7 +11,7 @@ use std::io;
 use std::io::ErrorKind;
 use std::net::Net;
 use std::time::{Clock, Duration, Instant};
-use visitors::{PLACES, Seat, Visitor, Visitors};
+use visitors::{PLACES, Seat, Turn, Visitor, Visitors};
 
 /// The token of the listener; those of visitors are their places.
 const DOOR: Token = Token(PLACES);
@@ -19,9 +19,12 @@ const DOOR: Token = Token(PLACES);
 /// The most events that one wait gives: one of each visitor, and that of the door.
 const EVENTS: usize = PLACES + 1;
 
-/// How long a wait is where somebody is there, in thousandths of a second: then it is seen whose time is over. Where
-/// nobody is there, it has no end.
+/// How long a wait is if somebody is there, in thousandths of a second: then it is seen whose time is over.
 const WAIT: u64 = 100;
+
+/// How long it is if nobody is there. It has an end, since who comes to the door is reported once: who is still there
+/// when letting in stops would otherwise wait until somebody else comes. Once a second costs nothing.
+const IDLE_WAIT: u64 = 1_000;
 
 /// A room, how many came, and who is there.
 #[derive(Drop)]
@@ -67,15 +70,21 @@ pub fn serve_visitors<N: Net + Clock, A: Answering>(
         if open.is_over(limit) {
             return Ok(open.came);
         }
-        poll.poll(&mut events, open.wait())?;
-        open.go_round(&poll, &events, limit)?;
+        poll.poll(&mut events, Some(open.wait()))?;
+        let looked = open.now()?;
+        open.go_round(&poll, &events, looked, limit)?;
     }
     Err(io::Error::from(ErrorKind::TimedOut))
 }
 
 impl<'a, C: Clock, A: Answering> OpenRoom<'a, C, A> {
     ghost use Rattle.std.specs.Prelude.{◌≡◌, ◌<◌, true, IfSome};
-    ghost use Rattle.visitors.specs.Places.{count_of};
+    ghost use Rattle.std.specs.Duration.{as_nanos};
+    ghost use Rattle.room_requests.specs.Visits.{Answering as Answers};
+    ghost use Rattle.visitors.specs.Lives.{IsRight};
+    ghost use Rattle.visitors.specs.Places.{AreRight, count_of};
+    ghost use Rattle.room_door.specs.Sitting.{ComesBack, IsTurn, MaySit};
+    ghost use Rattle.room_door.specs.Waiting.{wait_of};
 
     /// Whether so many came as may, and nobody is there.
     fn is_over(&self, limit: Option<u32>) -> bool
@@ -97,12 +106,14 @@ impl<'a, C: Clock, A: Answering> OpenRoom<'a, C, A> {
         }
     }
 
-    /// How long to wait.
-    fn wait(&self) -> Option<Duration> {
+    /// How long to wait until something is reported: a tenth of a second if somebody is there, else a second.
+    fn wait(&self) -> Duration
+        ensures { as_nanos result ≡ wait_of (count_of self.now.visitors) }
+    {
         if self.visitors.count() == 0 {
-            None
+            Duration::from_millis(IDLE_WAIT)
         } else {
-            Some(Duration::from_millis(WAIT))
+            Duration::from_millis(WAIT)
         }
     }
 
@@ -113,74 +124,120 @@ impl<'a, C: Clock, A: Answering> OpenRoom<'a, C, A> {
     }
 
     /// Gives a turn to each visitor who can go on, closes the lines of those whose time is over, and lets in who waits
-    /// at the door.
-    fn go_round(&mut self, poll: &Poll, events: &Events, limit: Option<u32>) -> io::Result<()> {
-        for event in events {
-            if event.token() != DOOR {
-                self.give_turn(poll, event.token().0)?;
-            }
+    /// at the door. Who is there is answered rightly still.
+    ///
+    /// A time is over if it was when the events were looked for: who sent something before that is among them. What
+    /// came while others had their turns is heard in the next round, however long these took.
+    fn go_round(
+        &mut self,
+        poll: &Poll,
+        events: &Events,
+        looked: u64,
+        limit: Option<u32>,
+    ) -> io::Result<()>
+        ensures right { A.is_honest self.old.room.now → AreRight (A.answers self.old.room.now) self.old.visitors
+            → AreRight (A.answers self.old.room.now) self.new.visitors }
+    {
+        'turns: for event in events {
+            self.hear(poll, event.token())?;
         }
-        self.close_late()?;
+        self.visitors.close_late(looked);
         self.let_in(poll, limit)
     }
 
-    /// Closes the lines of those whose time is over.
-    fn close_late(&mut self) -> io::Result<()> {
-        let now = self.now()?;
-        for place in 0..PLACES {
-            if self.visitors.is_late_at(place, now) {
-                let _ = self.visitors.take(place);
-            }
+    /// Gives a turn to whom an event names, and none to who waits at the door.
+    fn hear(&mut self, poll: &Poll, token: Token) -> io::Result<()>
+        ensures same { self.new.room ≡ self.old.room }
+        ensures right { A.is_honest self.old.room.now → AreRight (A.answers self.old.room.now) self.old.visitors
+            → AreRight (A.answers self.old.room.now) self.new.visitors }
+    {
+        if token == DOOR {
+            Ok(())
+        } else {
+            self.give_turn(poll, token.0)
         }
-        Ok(())
     }
 
-    /// Gives a turn to who is at the place.
-    fn give_turn(&mut self, poll: &Poll, place: usize) -> io::Result<()> {
+    /// Gives a turn to who is at the place, whose line stays. Nobody else is touched.
+    fn give_turn(&mut self, poll: &Poll, place: usize) -> io::Result<()>
+        ensures turn { IsTurn self.old.visitors self.new.visitors place }
+        ensures same { self.new.room ≡ self.old.room }
+        ensures right { A.is_honest self.old.room.now → AreRight (A.answers self.old.room.now) self.old.visitors
+            → AreRight (A.answers self.old.room.now) self.new.visitors }
+    {
         let now = self.now()?;
-        let Some(seat) = self.visitors.take(place) else {
-            return Ok(());
-        };
-        match go_on(self.alloc, self.room, seat, now) {
-            Left::Waits(seat) => self.sit(seat),
-            Left::GoesOn(mut seat) => {
-                let again = poll.registry().reregister(
-                    &mut seat.line,
-                    Token(place),
-                    Interest::READABLE | Interest::WRITABLE,
-                );
-                if again.is_ok() {
-                    self.sit(seat);
-                }
+        match self.visitors.take(place) {
+            Some(seat) => {
+                self.turn(poll, seat, now);
+                Ok(())
             }
-            Left::Nothing => {}
+            None => Ok(()),
         }
-        Ok(())
+    }
+
+    /// The turn of a visitor, who then has the next place, on the same line, or is gone.
+    fn turn(&mut self, poll: &Poll, seat: Seat<TcpStream>, now: u64)
+        requires { count_of self.old.visitors < 256 }
+        ensures back { ComesBack self.old.visitors self.new.visitors seat }
+        ensures same { self.new.room ≡ self.old.room }
+        ensures right { A.is_honest self.old.room.now → AreRight (A.answers self.old.room.now) self.old.visitors
+            → IsRight (A.answers self.old.room.now) seat.visitor
+            → AreRight (A.answers self.old.room.now) self.new.visitors }
+    {
+        let Seat { line, visitor } = seat;
+        let mut reader = &line;
+        let mut writer = &line;
+        match go_on(
+            self.alloc,
+            self.room,
+            &mut reader,
+            &mut writer,
+            visitor,
+            now,
+        ) {
+            Turn::On(visitor) => self.sit_again(poll, Seat { line, visitor }),
+            Turn::Waits(visitor) => self.sit(Seat { line, visitor }),
+            Turn::Lost => {}
+        }
     }
 
     /// Lets in those who wait at the door, while there are places.
-    fn let_in(&mut self, poll: &Poll, limit: Option<u32>) -> io::Result<()> {
+    fn let_in(&mut self, poll: &Poll, limit: Option<u32>) -> io::Result<()>
+        ensures right { (answer : Answers) → AreRight answer self.old.visitors → AreRight answer self.new.visitors }
+    {
         let now = self.now()?;
-        for _ in 0..PLACES {
+        'places: for _ in 0..PLACES {
             if !self.has_place(limit) {
                 return Ok(());
             }
-            match self.door.accept() {
-                Ok((line, _)) => {
-                    self.came = self.came.saturating_add(1);
-                    self.welcome(poll, line, now);
-                }
-                Err(e) if e.kind() == ErrorKind::WouldBlock => return Ok(()),
-                Err(e) if e.kind() == ErrorKind::ConnectionAborted => {}
-                Err(e) => return Err(e),
+            if !self.let_one_in(poll, now)? {
+                return Ok(());
             }
         }
         Ok(())
+    }
+
+    /// Lets in who waits at the door. Whether somebody else may wait there.
+    fn let_one_in(&mut self, poll: &Poll, now: u64) -> io::Result<bool>
+        requires { count_of self.old.visitors < 256 }
+        ensures right { (answer : Answers) → AreRight answer self.old.visitors → AreRight answer self.new.visitors }
+    {
+        match self.door.accept() {
+            Ok((line, _)) => {
+                self.came = self.came.saturating_add(1);
+                self.welcome(poll, line, now);
+                Ok(true)
+            }
+            Err(e) if e.kind() == ErrorKind::WouldBlock => Ok(false),
+            Err(e) if e.kind() == ErrorKind::ConnectionAborted => Ok(true),
+            Err(e) => Err(e),
+        }
     }
 
     /// Gives a connection its place. Where the system or the memory refuses that, it is closed.
     fn welcome(&mut self, poll: &Poll, line: TcpStream, now: u64)
         requires { count_of self.old.visitors < 256 }
+        ensures right { (answer : Answers) → AreRight answer self.old.visitors → AreRight answer self.new.visitors }
     {
         let mut line = line;
         let place = Token(self.visitors.next_place());
@@ -191,9 +248,27 @@ impl<'a, C: Clock, A: Answering> OpenRoom<'a, C, A> {
         }
     }
 
+    /// Gives a visitor who could go on the next place, and has that reported. If the system refuses it, the visit is
+    /// over.
+    fn sit_again(&mut self, poll: &Poll, seat: Seat<TcpStream>)
+        requires { count_of self.old.visitors < 256 }
+        ensures sits { MaySit self.old.visitors self.new.visitors seat }
+        ensures same { self.new.room ≡ self.old.room }
+    {
+        let mut seat = seat;
+        let place = Token(self.visitors.next_place());
+        let both = Interest::READABLE | Interest::WRITABLE;
+        let again = poll.registry().reregister(&mut seat.line, place, both);
+        if again.is_ok() {
+            self.sit(seat);
+        }
+    }
+
     /// Gives a visitor the next place. Where memory is refused to the list, the visit is over.
     fn sit(&mut self, seat: Seat<TcpStream>)
         requires { count_of self.old.visitors < 256 }
+        ensures sits { MaySit self.old.visitors self.new.visitors seat }
+        ensures same { self.new.room ≡ self.old.room }
     {
         let _ = self.visitors.admit(seat);
     }

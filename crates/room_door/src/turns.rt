@@ -1,84 +1,121 @@
-//! What a visitor does in a turn.
+//! What a visitor does in a turn, by any reader and writer.
 
-use mio::net::TcpStream;
+ghost use Rattle.std.specs.Prelude.{◌≡◌, ℕ, List, Option};
+ghost use Rattle.devices.specs.Devices.{AppendsBeginning};
+ghost use Rattle.room_requests.specs.Visits.{Answering as Answers};
+ghost use Rattle.visitors.specs.Lives.{HasGot, IsRight};
+ghost use Rattle.visitors.specs.Turns.{AfterTurn, MatchTurn};
+ghost use Rattle.visitors.specs.declared.visitor.Visitor.TheVariants as visitor;
+ghost use Rattle.room_door.specs.Visiting.{AfterCalls, IsVisit, StillTakes};
+
+use crate::ending::Ending;
 use room_requests::Answering;
 use std::alloc::Global;
 use std::io::{ErrorKind, Read};
-use std::net::Shutdown;
-use visitors::{Seat, Taking, Turn, Visitor};
+use visitors::{Taking, Turn, Visitor};
 
 /// How many calls a turn has: who could go on after them has another turn, after the others.
 const CALLS: u32 = 64;
 
-/// What a turn left of a visit.
-#[derive(Drop)]
-pub(crate) enum Left {
-    /// There is nothing to read or to write at present.
-    Waits(Seat<TcpStream>),
-    /// It could go on.
-    GoesOn(Seat<TcpStream>),
-    /// It is over.
-    Nothing,
-}
-
 /// Goes on with a visit, as far as its connection and its calls reach.
-pub(crate) fn go_on<A: Answering>(
+///
+/// What the writer has got since the visit began is a prefix of an answer to all that the reader gives in it.
+pub(crate) fn go_on<A: Answering, R: Read, W: Ending>(
     alloc: Global,
     room: &A,
-    seat: Seat<TcpStream>,
+    reader: &mut R,
+    writer: &mut W,
+    visitor: Visitor,
     now: u64,
-) -> Left {
-    let Seat { mut line, visitor } = seat;
-    let mut visitor = visitor;
-    for _ in 0..CALLS {
-        match call(alloc, room, &mut line, visitor, now) {
-            Turn::On(next) => visitor = next,
-            Turn::Waits(visitor) => return Left::Waits(Seat { line, visitor }),
-            Turn::Lost => return Left::Nothing,
+) -> Turn<Visitor>
+    ensures visit { (input start : Option (List ℕ)) → A.is_honest room.now
+        → IsVisit (A.answers room.now) input start (R.remaining reader.old) (W.contents writer.old) visitor
+        → AfterCalls (A.answers room.now) input start (R.remaining reader.new) (W.contents writer.new) result }
+    ensures right { A.is_honest room.now → IsRight (A.answers room.now) visitor
+        → AfterTurn result (IsRight (A.answers room.now)) }
+{
+    let mut next = visitor;
+    'calls: for _ in 0..CALLS {
+        match call(alloc, room, reader, writer, next, now) {
+            Turn::On(later) => next = later,
+            Turn::Waits(later) => return Turn::Waits(later),
+            Turn::Lost => return Turn::Lost,
         }
     }
-    Left::GoesOn(Seat { line, visitor })
+    Turn::On(next)
 }
 
 /// One read or write.
-fn call<A: Answering>(
+fn call<A: Answering, R: Read, W: Ending>(
     alloc: Global,
     room: &A,
-    line: &mut TcpStream,
+    reader: &mut R,
+    writer: &mut W,
     visitor: Visitor,
     now: u64,
-) -> Turn<Visitor> {
+) -> Turn<Visitor>
+    ensures visit { (input start : Option (List ℕ)) → A.is_honest room.now
+        → IsVisit (A.answers room.now) input start (R.remaining reader.old) (W.contents writer.old) visitor
+        → AfterCalls (A.answers room.now) input start (R.remaining reader.new) (W.contents writer.new) result }
+    ensures right { A.is_honest room.now → IsRight (A.answers room.now) visitor
+        → AfterTurn result (IsRight (A.answers room.now)) }
+{
     match visitor {
-        Visitor::Asks(asking) => asking.read(alloc, room, line, now),
-        Visitor::Takes(taking) => {
-            if taking.is_told() {
-                leave(line, taking)
-            } else {
-                tell(line, taking, now)
-            }
-        }
+        Visitor::Asks(asking) => asking.read(alloc, room, reader, now),
+        Visitor::Takes(taking) => take(reader, writer, taking, now),
+    }
+}
+
+/// One write of the answer, or, where all of it is written, one read.
+fn take<R: Read, W: Ending>(
+    reader: &mut R,
+    writer: &mut W,
+    taking: Taking,
+    now: u64,
+) -> Turn<Visitor>
+    ensures { (start : Option (List ℕ)) → HasGot start (W.contents writer.old) taking
+        → MatchTurn result (StillTakes taking start (W.contents writer.new))
+        (AppendsBeginning start (W.contents writer.new) taking.answer.items) }
+{
+    if taking.is_told() {
+        leave(reader, taking)
+    } else {
+        tell(writer, taking, now)
     }
 }
 
 /// Writes to a visitor. Where that was the last of the answer, nothing more is written.
-fn tell(line: &mut TcpStream, taking: Taking, now: u64) -> Turn<Visitor> {
-    match taking.write(line, now) {
-        Turn::On(taking) => {
-            if taking.is_told() && line.shutdown(Shutdown::Write).is_err() {
-                return Turn::Lost;
-            }
-            Turn::On(Visitor::Takes(taking))
-        }
-        Turn::Waits(taking) => Turn::Waits(Visitor::Takes(taking)),
+fn tell<W: Ending>(writer: &mut W, taking: Taking, now: u64) -> Turn<Visitor>
+    ensures { (start : Option (List ℕ)) → HasGot start (W.contents writer.old) taking
+        → MatchTurn result (StillTakes taking start (W.contents writer.new))
+        (AppendsBeginning start (W.contents writer.new) taking.answer.items) }
+{
+    match taking.write(writer, now) {
+        Turn::On(later) => end_told(writer, later),
+        Turn::Waits(later) => Turn::Waits(Visitor::Takes(later)),
         Turn::Lost => Turn::Lost,
     }
 }
 
+/// Ends the writing to a visitor who has all of the answer.
+fn end_told<W: Ending>(writer: &mut W, taking: Taking) -> Turn<Visitor>
+    ensures { (start : Option (List ℕ)) → HasGot start (W.contents writer.old) taking
+        → MatchTurn result (StillTakes taking start (W.contents writer.new))
+        (AppendsBeginning start (W.contents writer.new) taking.answer.items) }
+{
+    if taking.is_told() && writer.end().is_err() {
+        return Turn::Lost;
+    }
+    Turn::On(Visitor::Takes(taking))
+}
+
 /// Reads what a visitor still sends who has the answer, until the visitor closes: a close with bytes unread would take
 /// the answer back (RFC 9112, section 9.6).
-fn leave(line: &mut TcpStream, taking: Taking) -> Turn<Visitor> {
+fn leave<R: Read>(reader: &mut R, taking: Taking) -> Turn<Visitor>
+    ensures { AfterTurn result (λ v. v ≡ visitor.Takes taking) }
+{
     let mut piece = [0u8; 4_096];
-    match line.read(&mut piece) {
+    match reader.read(&mut piece) {
         Ok(0) => Turn::Lost,
         Ok(_) => Turn::On(Visitor::Takes(taking)),
         Err(e) if e.kind() == ErrorKind::WouldBlock => Turn::Waits(Visitor::Takes(taking)),

@@ -1,5 +1,5 @@
 -- Who is at which place.
-use Rattle.std.specs.Prelude.{ℕ, ◌≡◌, Bool, false, Option, None, Some}
+use Rattle.std.specs.Prelude.{ℕ, ◌≡◌, Bool, false, if◌then◌else◌, Option, None, Some}
 use Rattle.slab.specs.Slab.{get, slab_len, Updates}
 use Rattle.room_requests.specs.Visits.{Answering}
 use Rattle.visitors.specs.Lives.{IsRight, is_late}
@@ -23,6 +23,10 @@ module _ {S : Type 0} where
   abbrev pub is_late_there : Visitors S → ℕ → ℕ → Bool
   is_late_there v place now = is_late_seat (at v place) now
 
+  -- whose time is over is gone
+  abbrev pub unless_late : Option (Seat S) → ℕ → Option (Seat S)
+  unless_late there now = if is_late_seat there now then None else there
+
   -- the place of the next who comes
   abbrev pub next_of : Visitors S → ℕ
   next_of v = v.seats.vacant_key
@@ -34,6 +38,10 @@ module _ {S : Type 0} where
   -- nobody is at a place, and the others stay
   abbrev pub Left : Visitors S → Visitors S → ℕ → Type 0
   Left old new place = Updates old.seats new.seats place None
+
+  -- each stays who is at no such place
+  abbrev pub KeepsOthers : Visitors S → Visitors S → ℕ → Type 0
+  KeepsOthers old new place = (other : ℕ) → ¬ (other ≡ place) → at new other ≡ at old other
 
   -- each who is there is answered rightly
   abbrev pub AreRight : Answering → Visitors S → Type 0

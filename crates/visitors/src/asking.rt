@@ -76,6 +76,7 @@ impl Asking {
         ensures given { (start : Option (List ℕ)) → Consumes start (R.remaining reader.old) self.came.items
             → AfterTurn result (λ v. Consumes start (R.remaining reader.new) (came_of v)) }
         ensures ended { AfterTurn result (EndsAt (R.remaining reader.new)) }
+        ensures takes { AfterTurn result (TakesSince now) }
     {
         let mut piece = [0u8; HEAD_LIMIT];
         let most = HEAD_LIMIT - self.came.len();
@@ -98,6 +99,7 @@ impl Asking {
         ensures given { (start : Option (List ℕ)) → Consumes start (R.remaining reader.old) self.came.items
             → AfterTurn result (λ v. Consumes start (R.remaining reader.new) (came_of v)) }
         ensures ended { AfterTurn result (EndsAt (R.remaining reader.new)) }
+        ensures takes { AfterTurn result (TakesSince now) }
     {
         match reader.read(piece) {
             Ok(0) => self.end_turn(alloc, room, now),
@@ -110,6 +112,7 @@ impl Asking {
     fn end_turn<A: Answering>(self, alloc: Global, room: &A, now: u64) -> Turn<Visitor>
         ensures right { A.is_honest room.now → AfterTurn result (IsRight (A.answers room.now)) }
         ensures came { AfterTurn result (λ v. came_of v ≡ self.came.items) }
+        ensures takes { AfterTurn result (TakesSince now) }
     {
         match self.end(alloc, room, now) {
             Ok(visitor) => Turn::On(visitor),
@@ -128,6 +131,7 @@ impl Asking {
         ensures right { A.is_honest room.now → AfterTurn result (IsRight (A.answers room.now)) }
         ensures came { AfterTurn result (λ v. came_of v ≡ self.came.items ++ bytes.now) }
         ensures open { AfterTurn result StaysOpen }
+        ensures takes { AfterTurn result (TakesSince now) }
     {
         match self.hear(alloc, room, bytes, now) {
             Ok(visitor) => Turn::On(visitor),

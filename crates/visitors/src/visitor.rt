@@ -1,7 +1,8 @@
 //! One visitor.
 
 ghost use Rattle.std.specs.Prelude.{◌≡◌, []};
-ghost use Rattle.visitors.specs.Lives.{came_of, is_late as is_late_at, is_over as is_told_all};
+ghost use Rattle.room_requests.specs.Visits.{Answering};
+ghost use Rattle.visitors.specs.Lives.{IsRight, came_of, is_late as is_late_at, is_over as is_told_all};
 
 use crate::asking::Asking;
 use crate::taking::Taking;
@@ -17,7 +18,8 @@ pub enum Visitor {
 impl Visitor {
     /// One who comes at that time, in thousandths of a second, and has sent nothing.
     pub fn new(alloc: Global, now: u64) -> Visitor
-        ensures { came_of result ≡ [] }
+        ensures came { came_of result ≡ [] }
+        ensures right { (answer : Answering) → IsRight answer result }
     {
         Visitor::Asks(Asking::new(alloc, now))
     }

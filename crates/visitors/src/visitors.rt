@@ -25,10 +25,20 @@ pub struct Visitors<S> {
 }
 
 impl<S: Drop> Visitors<S> {
-    ghost use Rattle.std.specs.Prelude.{◌≡◌, ◌+◌, ◌<◌, None, Some, IfOk, IfSome, OnOk, OnSome};
+    ghost use Rattle.std.specs.Prelude.{◌≡◌, ◌+◌, ◌<◌, ℕ, None, Some, IfOk, IfSome, OnErr, OnOk, OnSome};
     ghost use Rattle.room_requests.specs.Visits.{Answering};
     ghost use Rattle.visitors.specs.Lives.{IsRight};
-    ghost use Rattle.visitors.specs.Places.{AreRight, Left, Sits, at, count_of, is_late_there, next_of};
+    ghost use Rattle.visitors.specs.Places.{
+      AreRight,
+      KeepsOthers,
+      Left,
+      Sits,
+      at,
+      count_of,
+      is_late_there,
+      next_of,
+      unless_late,
+    };
 
     /// Nobody.
     pub fn new(alloc: Global) -> Visitors<S>
@@ -62,6 +72,7 @@ impl<S: Drop> Visitors<S> {
         requires { count_of self.old < 256 }
         ensures place { IfOk result (λ place. place ≡ next_of self.old) }
         ensures sits { IfOk result (λ place. Sits self.old self.new place seat) }
+        ensures refused { OnErr result ((place : ℕ) → at self.new place ≡ at self.old place) }
         ensures count { OnOk result (count_of self.new ≡ count_of self.old + 1) }
         ensures right { (answer : Answering) → AreRight answer self.old → IsRight answer seat.visitor
             → AreRight answer self.new }
@@ -86,8 +97,29 @@ impl<S: Drop> Visitors<S> {
         self.seats.try_remove(place)
     }
 
+    /// Closes the lines of those whose time is over.
+    pub fn close_late(&mut self, now: u64)
+        ensures gone { (place : ℕ) → place < 256 → at self.new place ≡ unless_late (at self.old place) now }
+        ensures right { (answer : Answering) → AreRight answer self.old → AreRight answer self.new }
+    {
+        'places: for place in 0..PLACES {
+            self.close_late_at(place, now);
+        }
+    }
+
+    /// Closes the line of who is at the place, if that one's time is over.
+    fn close_late_at(&mut self, place: usize, now: u64)
+        ensures gone { at self.new place ≡ unless_late (at self.old place) now }
+        ensures others { KeepsOthers self.old self.new place }
+        ensures right { (answer : Answering) → AreRight answer self.old → AreRight answer self.new }
+    {
+        if self.is_late_at(place, now) {
+            let _ = self.take(place);
+        }
+    }
+
     /// Whether there is somebody at the place whose time is over.
-    pub fn is_late_at(&self, place: usize, now: u64) -> bool
+    fn is_late_at(&self, place: usize, now: u64) -> bool
         ensures { result ≡ is_late_there self.now place now }
     {
         match self.seats.get(place) {
