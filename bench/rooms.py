@@ -65,12 +65,23 @@ def memory_of(process):
     return int(held) / 1e3
 
 
+def archive(command, folder, persons):
+    """The file of an archive of so many persons, in the folder."""
+    text, file = os.path.join(folder, "bench.ged"), os.path.join(folder, "ashby.db")
+    written(text, lines_of(persons))
+    subprocess.run([*command, "init", file, "--society", "Ashby Society"], check=True)
+    with open(text, "rb") as lines:
+        words = [*command, "import", file, "--token", "bench"]
+        subprocess.run(words, stdin=lines, stdout=subprocess.DEVNULL, check=True)
+    return file
+
+
 @contextlib.contextmanager
-def room(command, file, count):
+def room(command, file, count, *more):
     """The room of an archive, and how long it took to open."""
     port, begun = free_port(), time.perf_counter()
     today = datetime.date.today().isoformat()
-    words = [*command, "serve", file, "--port", str(port), "--count", str(count), "--today", today]
+    words = [*command, "serve", file, "--port", str(port), "--count", str(count), "--today", today, *more]
     process = subprocess.Popen(words, stdout=subprocess.PIPE)
     try:
         if not process.stdout.readline().startswith(b"listening on "):
@@ -107,12 +118,7 @@ def main():
     given = words.parse_args()
     command = shlex.split(given.parish)
     with tempfile.TemporaryDirectory() as folder:
-        text, file = os.path.join(folder, "bench.ged"), os.path.join(folder, "ashby.db")
-        written(text, lines_of(given.persons))
-        subprocess.run([*command, "init", file, "--society", "Ashby Society"], check=True)
-        with open(text, "rb") as lines:
-            words = [*command, "import", file, "--token", "bench"]
-            subprocess.run(words, stdin=lines, stdout=subprocess.DEVNULL, check=True)
+        file = archive(command, folder, given.persons)
         with room(command, file, 4 + 3 * given.visits + given.many) as (process, port, opening):
             print(f"{given.persons:,} persons: open after {opening:.2f} s, {memory_of(process):.0f} MB\n")
             print("| page | bytes | mean | middle | longest |\n|---|---|---|---|---|")

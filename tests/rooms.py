@@ -83,10 +83,10 @@ class Room:
 
 
 def read_all(one: socket.socket) -> bytes:
-    got = b""
+    pieces = []
     while piece := one.recv(65_536):
-        got += piece
-    return got
+        pieces.append(piece)
+    return b"".join(pieces)
 
 
 def visited(at, given: bytes, tries=20, **how) -> tuple[bytes, Outcome]:

@@ -24,6 +24,7 @@ import archives  # noqa: E402
 import audits  # noqa: E402
 import conversions  # noqa: E402
 import converted  # noqa: E402
+import crowds  # noqa: E402
 import days  # noqa: E402
 import devices  # noqa: E402
 import documents  # noqa: E402
@@ -80,6 +81,7 @@ PARTS = (
     kept_gate,
     leaks,
     visitors,
+    crowds,
     sheet_commands,
     rooms,
     audits,

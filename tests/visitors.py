@@ -14,7 +14,8 @@ from rooms import Room, read_all
 from sheet_commands import SMITHS, TODAY, Shown
 from visits import HOST, answer, request
 
-LONGEST = 30  # seconds of a visit, from docs/READING-ROOM.md
+LONGEST = 30  # seconds for taking the answer, from docs/READING-ROOM.md
+SILENCE = 2  # seconds until a visitor who sends nothing is let go, from the same
 LEAVING = 2  # seconds until a visitor who has the answer and does not close is left, from the same
 A_LITTLE = 10  # what a busy machine may add
 
@@ -91,70 +92,52 @@ def a_head_that_has_ended(tools):
                     demand(got == FAMILY, f"{len(said)} pieces: {difference(FAMILY, got)}")
 
 
-def one_after_the_other(tools):
-    """Who comes while another says nothing waits, and is answered then."""
+def beside_one_another(tools):
+    """Who comes while another says nothing is answered at once."""
     with Shown(tools) as at:
         at.with_rows(SMITHS)
-        with Room(at, 2) as room:
-            with room.visit():
-                time.sleep(0.2)
-                other = room.visit()
-                other.sendall(request("/family/3"))
-                other.settimeout(0.5)
-                try:
-                    demand(not other.recv(1), "the second visitor was served first")
-                except TimeoutError:
-                    pass
-            other.settimeout(60)
-            got, wanted = read_all(other), answer(200, "Family 3\nHusband: 1 John Smith\nWife: 2 Living\n")
-            other.close()
-            demand(got == wanted, difference(wanted, got))
+        with Room(at, 2) as room, room.visit():
+            time.sleep(0.2)
+            begun = time.monotonic()
+            got = room.asked(request("/family/3"))
+            took = time.monotonic() - begun
+            demand(got == FAMILY, difference(FAMILY, got))
+            demand(took < SILENCE, f"the second visitor waited {took:.1f} s")
 
 
 def who_says_nothing(tools):
-    """A visitor who says nothing, or a byte now and then, is let go after half a minute; who waited is answered."""
+    """Who says nothing is let go after two seconds, and who stops within the head; neither is answered."""
     with Shown(tools) as at:
         at.with_rows(SMITHS)
-        for given in (b"", request("/person/1", lines=HOST + b"x:" + b"y" * 100 + b"\r\n")):
-            with Room(at, 2) as room, room.visit() as slow:
+        for given in (b"", request("/person/1")[:-2]):
+            with Room(at, 1) as room, room.visit() as one:
                 begun = time.monotonic()
-                other = room.visit()
-                other.sendall(request("/family/3"))
-                other.settimeout(1)
+                one.sendall(given)
                 got = b""
-                for place in range(LONGEST + A_LITTLE):
-                    if given:
-                        with contextlib.suppress(ConnectionError):
-                            slow.sendall(given[place : place + 1])
-                    try:
-                        got = read_all(other)
-                        break
-                    except TimeoutError:
-                        continue
+                with contextlib.suppress(ConnectionResetError):  # what was not read yet is thrown away
+                    got = answered_within(one, SILENCE + A_LITTLE)
                 took = time.monotonic() - begun
-                wanted = answer(200, "Family 3\nHusband: 1 John Smith\nWife: 2 Living\n")
-                demand(got == wanted, f"after {took:.0f} s: {difference(wanted, got)}")
-                demand(took > 1, "the first visitor was not waited for")
-                other.close()
+                demand(got == b"", f"{given!r}: {got!r}")
+                demand(took > SILENCE - 0.5, f"the visitor was let go after {took:.1f} s")
 
 
 def who_does_not_read(tools):
-    """A visitor who asks for a page of 10 MB and reads none of it is let go after half a minute; who waited is
-    answered."""
+    """Who asks for a page of 10 MB and reads none of it is let go after half a minute, and holds up nobody."""
     with Shown(tools) as at:
         at.with_rows([*SMITHS, *(f"n{n},name,1,{'x' * 1_000_000}" for n in range(10))])
         with Room(at, 2) as room, socket.socket() as idle:
             idle.setsockopt(socket.SOL_SOCKET, socket.SO_RCVBUF, 4_096)  # the less is on its way
             idle.settimeout(60)
             idle.connect(("127.0.0.1", room.port))
-            idle.sendall(request("/person/1"))
             begun = time.monotonic()
+            idle.sendall(request("/person/1"))
             with room.visit() as other:
                 other.sendall(request("/family/3"))
-                got = answered_within(other, LONGEST + A_LITTLE)
+                got = answered_within(other, A_LITTLE)
+            demand(got == FAMILY, difference(FAMILY, got))
+            room.process.wait(timeout=LONGEST + A_LITTLE)
             took = time.monotonic() - begun
-            demand(got == FAMILY, f"after {took:.0f} s: {difference(FAMILY, got)}")
-            demand(took > LONGEST - A_LITTLE, f"after {took:.0f} s: the page was on its way before anybody read it")
+            demand(took > LONGEST - 1, f"after {took:.0f} s: the page was on its way before anybody read it")
 
 
 def who_does_not_close(tools):
@@ -241,7 +224,7 @@ TESTS = (
     visitors_who_leave,
     byte_by_byte,
     a_head_that_has_ended,
-    one_after_the_other,
+    beside_one_another,
     who_does_not_close,
     by_another_address,
     a_port_that_is_taken,

@@ -108,8 +108,9 @@ pub(crate) const SERVE_EXAMPLE: &str = "\
 The archive is read once, and then FILE is not used. What may be shown of it on
 the day of --today, as docs/LIVING.md tells, is given to each visitor who asks: as
 text, or with --html as pages of HTML with links and a search.
-`listening on 127.0.0.1:<port>` is printed, and N visitors are answered one after
-the other; then it ends. The archive is not changed.
+`listening on 127.0.0.1:<port>` is printed, and N visitors are answered, up to 256
+at once; then it ends. With --html and an N of 0 it does not. The archive is not
+changed.
 
 Refusals:
   94 ReadFailed    nobody can be heard at the port, or no more

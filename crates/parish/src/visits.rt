@@ -2,7 +2,7 @@
 
 ghost use Rattle.std.specs.Int.{IsInRange};
 ghost use Rattle.std.specs.Io.KnownBytes.{Appends};
-ghost use Rattle.std.specs.Prelude.{◌≡◌, Err, IfOk, OnErr, OnOk, option_map, string_bytes};
+ghost use Rattle.std.specs.Prelude.{◌≡◌, ◌<◌, Err, IfNone, IfOk, IfSome, OnErr, OnOk, option_map, string_bytes};
 ghost use Rattle.devices.specs.Devices.{AppendsBeginning, Rose};
 ghost use Rattle.reading_room.specs.Listening.{listening_line};
 ghost use Rattle.record_text.specs.declared.refusal.RefusalKind.TheVariants as refusal;
@@ -146,12 +146,12 @@ where
 {
     let (shown, _society) = shelf.into_parts();
     match Room::new(alloc, shown) {
-        Ok(room) => serve(alloc, net, &room, port, count, output),
+        Ok(room) => serve(alloc, net, &room, port, Some(count), output),
         Err(_) => Err(RefusalKind::OutOfMemory),
     }
 }
 
-/// Serves a room of HTML. 1: memory was refused. Else it ends as `reading_room::serve`.
+/// Serves a room of HTML, for 0 visitors without an end. 1: memory was refused. Else it ends as `reading_room::serve`.
 fn serve_html<N, W: Write + Device>(
     alloc: Global,
     net: &N,
@@ -169,9 +169,17 @@ where
     ensures failed { result ≡ Err refusal.WriteFailed → Rose (W.failed output.old) (W.failed output.new) }
 {
     match html_room(alloc, shelf, host) {
-        Ok(room) => serve(alloc, net, &room, port, count, output),
+        Ok(room) => serve(alloc, net, &room, port, limit_of(count), output),
         Err(_) => Err(RefusalKind::OutOfMemory),
     }
+}
+
+/// After how many visitors a room of HTML ends. `None`, for 0: it has no end.
+fn limit_of(count: u32) -> Option<u32>
+    ensures none { IfNone result (count ≡ 0) }
+    ensures some { IfSome result (λ limit. (limit ≡ count) × (0 < count)) }
+{
+    if count == 0 { None } else { Some(count) }
 }
 
 /// The room of HTML of what is shown, which may be asked for by a name.

@@ -5,7 +5,6 @@ use Rattle.std.specs.Net.Socket.{socket_ip, socket_port}
 use Rattle.std.specs.declared.net.socket_addr.SocketAddr.{SocketAddr}
 use Rattle.record_text.specs.declared.refusal.RefusalKind.{RefusalKind}
 use Rattle.record_text.specs.declared.refusal.RefusalKind.TheVariants as refusal
-use Rattle.reading_room.specs.declared.visits.Visits.{Visits}
 
 -- that port of 127.0.0.1
 pub record IsRoomAddress (port : ℕ) (address : SocketAddr) : Type 0 where
@@ -15,10 +14,6 @@ pub record IsRoomAddress (port : ℕ) (address : SocketAddr) : Type 0 where
 -- the address and the port, and a line feed
 abbrev pub listening_line : ℕ → List ℕ
 listening_line port = codes "listening on 127.0.0.1:" ++ decimal port ++ codes "\n"
-
--- how many connections were accepted
-abbrev pub visits_of : Visits → ℕ
-visits_of visits = visits.count
 
 -- listening or accepting failed; the output failed; memory was refused
 abbrev pub IsRoomRefusal : RefusalKind → Type 0

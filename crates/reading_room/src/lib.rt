@@ -4,15 +4,13 @@
 //!
 //! Callers may rely on: an answer is a function of the bytes of the request and of the masked records, but for a
 //! head that is malformed or cut, and too large; nothing is written before an answer is whole; a visitor who is slow or
-//! silent holds a room for half a minute.
+//! silent holds up nobody.
 #![tactic(auto)]
 
-mod connection;
 pub mod laws;
 mod listening;
 mod room;
 mod visit;
-mod visits;
 
 pub use listening::serve;
 pub use room::Room;

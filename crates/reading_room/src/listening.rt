@@ -1,58 +1,60 @@
-//! A room that listens, and serves one visitor after the other.
+//! A room that listens, and serves many visitors at once.
 
-ghost use Rattle.std.specs.Prelude.{◌≡◌, Err, IfErr, IfOk, OnErr, OnOk, string_bytes};
+ghost use Rattle.std.specs.Prelude.{◌≡◌, ◌⊎◌, Err, IfErr, IfOk, IfSome, OnErr, OnOk, string_bytes};
 ghost use Rattle.std.specs.Io.KnownBytes.{Appends};
 ghost use Rattle.devices.specs.Devices.{AppendsBeginning, Rose};
 ghost use Rattle.record_text.specs.declared.refusal.RefusalKind.TheVariants as refusal;
-ghost use Rattle.reading_room.specs.Listening.{IsRoomAddress, IsRoomRefusal, listening_line, visits_of};
+ghost use Rattle.reading_room.specs.Listening.{IsRoomAddress, IsRoomRefusal, listening_line};
 
-use crate::visits::Visits;
 use devices::{Device, TransferError, write_flushed};
+use mio::net::TcpListener;
 use record_text::RefusalKind;
+use room_door::serve_visitors;
 use room_requests::Answering;
 use std::alloc::{AllocError, Global};
-use std::io::Write;
-use std::net::{Net, SocketAddr, TcpListener, TcpStream};
+use std::io::{ErrorKind, Write};
+use std::net::{Net, SocketAddr};
 use std::time::Clock;
 
-/// Listens on a port of 127.0.0.1, says so on the output, and serves so many connections, one after the other.
+/// Listens on a port of 127.0.0.1, says so on the output, and serves so many connections, up to 256 at once; without a
+/// limit there is no end.
 ///
-/// What fails on one connection ends that one, and the next is served. 94: listening or accepting failed. 95: the
-/// output failed. 1: memory was refused to what is said, or the output did not count its error.
+/// What fails on one connection ends that one. 94: listening, accepting or the clock failed. 95: the output failed. 1:
+/// memory was refused to what is said or to the list of events, or the output did not count its error.
 pub fn serve<N, A: Answering, W: Write + Device>(
     alloc: Global,
     net: &N,
     room: &A,
     port: u16,
-    count: u32,
+    limit: Option<u32>,
     output: &mut W,
 ) -> Result<(), RefusalKind>
 where
-    N: Net<Listener = TcpListener, Stream = TcpStream> + Clock,
+    N: Net + Clock,
     ensures ok { OnOk result (Appends (W.contents output.old) (W.contents output.new) (listening_line port)) }
     ensures err { OnErr result
         (AppendsBeginning (W.contents output.old) (W.contents output.new) (listening_line port)) }
     ensures failed { result ≡ Err refusal.WriteFailed → Rose (W.failed output.old) (W.failed output.new) }
     ensures listed { IfErr result IsRoomRefusal }
 {
-    match serve_visits(alloc, net, room, port, count, output) {
+    match serve_visits(alloc, net, room, port, limit, output) {
         Ok(_) => Ok(()),
         Err(kind) => Err(kind),
     }
 }
 
-/// The same, with the visits that there were: so many as are asked for.
+/// The same, with the number of visitors who came: so many as are asked for.
 fn serve_visits<N, A: Answering, W: Write + Device>(
     alloc: Global,
     net: &N,
     room: &A,
     port: u16,
-    count: u32,
+    limit: Option<u32>,
     output: &mut W,
-) -> Result<Visits, RefusalKind>
+) -> Result<u32, RefusalKind>
 where
-    N: Net<Listener = TcpListener, Stream = TcpStream> + Clock,
-    ensures visits { IfOk result (λ visits. visits_of visits ≡ count) }
+    N: Net + Clock,
+    ensures visits { IfSome limit (λ count. IfOk result (λ came. came ≡ count)) }
     ensures ok { OnOk result (Appends (W.contents output.old) (W.contents output.new) (listening_line port)) }
     ensures err { OnErr result
         (AppendsBeginning (W.contents output.old) (W.contents output.new) (listening_line port)) }
@@ -64,7 +66,7 @@ where
         Err(_) => return Err(RefusalKind::ReadFailed),
     };
     match say_listening(alloc, port, output) {
-        Ok(()) => serve_on(alloc, net, room, &listener, count),
+        Ok(()) => serve_on(alloc, net, room, listener, limit),
         Err(kind) => Err(kind),
     }
 }
@@ -76,25 +78,22 @@ fn room_address(port: u16) -> SocketAddr
     SocketAddr::from(([127, 0, 0, 1], port))
 }
 
-/// Serves so many connections of a listener. 94: accepting failed.
-fn serve_on<C: Clock, A: Answering>(
+/// Serves so many connections of a listener. 94: accepting, waiting or the clock failed.
+fn serve_on<N: Net + Clock, A: Answering>(
     alloc: Global,
-    clock: &C,
+    net: &N,
     room: &A,
-    listener: &TcpListener,
-    count: u32,
-) -> Result<Visits, RefusalKind>
-    ensures visits { IfOk result (λ visits. visits_of visits ≡ count) }
-    ensures refused { IfErr result (λ kind. kind ≡ refusal.ReadFailed) }
+    listener: TcpListener,
+    limit: Option<u32>,
+) -> Result<u32, RefusalKind>
+    ensures visits { IfSome limit (λ count. IfOk result (λ came. came ≡ count)) }
+    ensures refused { IfErr result (λ kind. (kind ≡ refusal.ReadFailed) ⊎ (kind ≡ refusal.OutOfMemory)) }
 {
-    let mut visits = Visits::none();
-    'visits: while visits.count() < count {
-        match visits.serve_next(alloc, clock, room, listener) {
-            Ok(()) => {}
-            Err(_) => return Err(RefusalKind::ReadFailed),
-        }
+    match serve_visitors(alloc, net, room, listener, limit) {
+        Ok(came) => Ok(came),
+        Err(e) if e.kind() == ErrorKind::OutOfMemory => Err(RefusalKind::OutOfMemory),
+        Err(_) => Err(RefusalKind::ReadFailed),
     }
-    Ok(visits)
 }
 
 /// Says on an output that a room listens, and flushes it.
