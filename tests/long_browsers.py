@@ -43,7 +43,8 @@ POINTER = re.compile(rb"@([A-Z]+\d+)@")
 EACH = 1_000  # words of an archive, at most
 DAY = date_of(TODAY).isoformat()
 LARGEST = 65_536
-FRAMES = r"[\[\]_]"  # of fields and buttons, as browsers of texts draw them
+# Frames of fields and buttons, as browsers of texts draw them, and a colon, which stands at the word before it.
+FRAMES = r"[\[\]_:]"
 SEEDS = ("/", "/surname?name=", "/search?q=z")  # each drawn word begins with z
 KINDS = (
     ("first page", "/"), ("person", "/person/"), ("family", "/family/"), ("pedigree", "/pedigree/"),
