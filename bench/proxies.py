@@ -22,7 +22,7 @@ import threading
 import time
 
 from norm import LAST, PARISH
-from rooms import archive, asked, free_port, room
+from rooms import archive, asked, free_port, room, wait_for
 
 MANY = 1_000_000  # as many visitors as a room can have that ends
 CONNECTIONS, THREADS = 64, 2  # of wrk
@@ -64,11 +64,7 @@ def nginx(folder, rooms):
         out.write(NGINX.format(folder=folder, port=port, rooms=servers, user=user))
     process = subprocess.Popen(["nginx", "-p", folder, "-c", file])
     try:
-        for _ in range(100):
-            with contextlib.suppress(ConnectionRefusedError):
-                socket.create_connection(("127.0.0.1", port)).close()
-                break
-            time.sleep(0.1)
+        wait_for(port)
         yield port
     finally:
         process.terminate()

@@ -92,6 +92,15 @@ def room(command, file, count, *more):
         process.communicate()
 
 
+def wait_for(port):
+    """Waits until a server listens at the port, ten seconds at most."""
+    for _ in range(100):
+        with contextlib.suppress(ConnectionRefusedError):
+            socket.create_connection(("127.0.0.1", port)).close()
+            return
+        time.sleep(0.1)
+
+
 @contextlib.contextmanager
 def peer(folder):
     """Python's http.server, with a port."""
@@ -99,11 +108,7 @@ def peer(folder):
     words = [sys.executable, "-m", "http.server", "--bind", "127.0.0.1", "--directory", folder, str(port)]
     process = subprocess.Popen(words, stdout=subprocess.DEVNULL, stderr=subprocess.DEVNULL)
     try:
-        for _ in range(100):
-            with contextlib.suppress(ConnectionRefusedError):
-                socket.create_connection(("127.0.0.1", port)).close()
-                break
-            time.sleep(0.1)
+        wait_for(port)
         yield port
     finally:
         process.kill()

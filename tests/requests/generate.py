@@ -111,7 +111,7 @@ class Rows:
         self.links = {}  # for each mention of an entry, the person that it is linked to, or none
         self.names = {}  # the numbers that each record names
         self.members = {}  # the partners and the children of each family
-        self.parties = {}  # the owner of each event, and behind it the participants
+        self.parties = {}  # the owner of each event, and after it the participants
         self.slips = {}  # what each merge changed
         self.stamps = {}  # which change of each record was the last
         self.changed = 0
