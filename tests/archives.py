@@ -280,6 +280,23 @@ TOLD = (
     ("x,partner,3,wife,1", "59 AlreadyInFamily: field 5 (person): the family has this person already"),
     ("x,unparticipant,8,1", "64 NoSuchField: field 4 (participant): the event has not so many participants"),
     ("x,unchild,3,1", "65 NotMember: field 4 (person): the family has no such child"),
+    ("x,correct,2,sexes,M", "90 BadRow: field 4 (field): no field of a record"),
+    ("x,correct,2,sex,m", "90 BadRow: field 5 (value): neither empty nor M, F or U"),
+    (
+        "x,correct,8,place,2",
+        "51 WrongKind: field 3 (number) or field 5 (value): what has this number is of another kind",
+    ),
+    ("x,correct,1,name 2,X", "64 NoSuchField: field 4 (field): the record has no such field, or not so many"),
+    ("x,correct,4,call number,7", "58 BadText: field 5 (value): there is no repository"),
+    # the merge left a second SEX
+    (
+        "x,correct,2,sex,",
+        "66 StillCarried: field 5 (value): with it a line that is carried would be read as a field",
+    ),
+    (
+        "x,correct,8,tag,MARR",
+        "62 NotOfKind: field 5 (value): it is no tag of the owner, or no role of the entry's kind",
+    ),
     ("x,event,2,MARR,,,", "62 NotOfKind: field 4 (tag): the owner has no events of this tag"),
     ("x,entry,4,BAPTISM,,2,,,,child,X,priest,Y", "62 NotOfKind: field 12 (role): there is no such role"),
     ("x,entry,4,BAPTISM,,2,,,,groom,X", "62 NotOfKind: a role of a mention is none of the kind of the entry"),

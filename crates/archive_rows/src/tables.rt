@@ -36,7 +36,7 @@ pub(crate) fn write<S: Alter>(
         return Err(RefusalKind::Storage);
     }
     let mut tx = conn.transaction();
-    write_changes(alloc, &mut tx, changes)?;
+    write_changes(alloc, &mut tx, changes, &[])?;
     match tx.commit() {
         Ok(()) => Ok(()),
         Err(_) => Err(RefusalKind::Storage),

@@ -57,6 +57,7 @@ pub record IsSeenAs (rows other : Rows) : Type 0 where
   pub slips : other.slips ≡ rows.slips
   pub slip_lines : other.slip_lines ≡ rows.slip_lines
   pub slip_packs : other.slip_packs ≡ rows.slip_packs
+  pub pasts : other.pasts ≡ rows.pasts
   pub batch : is_closed 0 other.batches ≡ is_closed 0 rows.batches
   pub recorded : (n : ℕ) → has_record n other ≡ has_record n rows
   pub lines : (n : ℕ) → has_record n rows ≡ true → lines_of n other ≡ lines_of n rows

@@ -48,11 +48,13 @@ use Rattle.archive_core.specs.Machine.{Does, outcome}
 use Rattle.archive_core.specs.Words.{HasUtf8Words}
 use Rattle.archive_core.specs.declared.request.Request.{Request}
 use Rattle.archive_core.proofs.Serving.{request_sound}
-use Rattle.store_tables.specs.Calls.{LeavesOnly, Settled}
+use Rattle.store_tables.specs.Calls.{Inside, LeavesOnly, Settled}
 use Rattle.store_tables.specs.Rows.{Rows}
 use Rattle.store_rows.specs.Meaning.{AllShallow}
-use Rattle.store_rows.specs.Spans.{AreDrawn, Drawn, FollowsDrawn, with_dated_changes}
+use Rattle.store_rows.specs.Pasts.{FollowsAll}
+use Rattle.store_rows.specs.Spans.{AreDrawn, Drawn, with_dated_changes}
 use Rattle.store_rows.proofs.Meaning.{changes_mean}
+use Rattle.store_rows.proofs.PastsAside.{none_added}
 use Rattle.store_rows.proofs.SpansAside.{
   dated_means,
   dated_society,
@@ -170,12 +172,13 @@ may_be_done c after r o lost did = subst (λ b. Allows c (cond b [] ((r, o) ∷ 
 -- ---- calls in a transaction, and its commit
 
 pub settles : (old mid new : State) (changes : Changes) (rows : Rows)
-    → FollowsDrawn (record old { in_transaction = true }) mid changes → Shows mid new mid.now mid.now false
+    → FollowsAll (record old { in_transaction = true }) mid changes [] → Shows mid new mid.now mid.now false
     → rows.has_spans ≡ true → Settled old rows → HasWritten rows changes new
 settles old mid new changes rows follows shows has was =
     let (drawn, are, inside, same) = follows rows has
     (record { is_open = was.is_open; inside = refl; schema = was.schema; good = was.good }) in
-    (drawn, are, committed mid new (with_dated_changes changes drawn rows) inside shows)
+    let all = subst (Inside mid) (none_added changes drawn rows) inside in
+    (drawn, are, committed mid new (with_dated_changes changes drawn rows) all shows)
 
 -- ---- a request that is refused, or in doubt
 pub stays_same : (s : State) (society : List ℕ) (c : Content) (rows : Rows) (r : Request) → Keeps society c rows

@@ -69,7 +69,7 @@ fn try_commit<S: Alter>(
     ensures ended { conn.new.in_transaction ≡ false }
 {
     let mut tx = conn.transaction();
-    match write_changes(alloc, &mut tx, changes) {
+    match write_changes(alloc, &mut tx, changes, &[]) {
         Ok(()) => Ok(tx.commit()),
         Err(kind) => {
             tx.rollback();

@@ -7,6 +7,7 @@ pub mod Meaning
 pub mod Naming
 pub mod OneContent
 pub mod Own
+pub mod PastsAside
 pub mod Puts
 pub mod RecordNumbers
 pub mod Seen

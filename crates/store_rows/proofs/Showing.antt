@@ -51,6 +51,7 @@ rows_of has_spans read = record {
   spans = [];
   links = [];
   soughts = [];
+  pasts = [];
 }
 
 back : {X Y : Type 0} (make : Y → X) (read : X → Y) (same : (y : Y) → read (make y) ≡ y) (ys : List Y)

@@ -3,6 +3,7 @@ pub mod Grouped
 pub mod Links
 pub mod Looking
 pub mod Meaning
+pub mod Pasts
 pub mod Shallow
 pub mod Sides
 pub mod Sought

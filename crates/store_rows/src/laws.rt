@@ -1,6 +1,6 @@
 //! What holds of the rows.
 
-ghost use Rattle.std.specs.Prelude.{◌≡◌, ◌≢◌, ◌==◌, ◌&&◌, ℕ, filter};
+ghost use Rattle.std.specs.Prelude.{◌≡◌, ◌≢◌, ◌==◌, ◌&&◌, ℕ, List, [], filter};
 ghost use Rattle.std.specs.List.{list_any};
 ghost use Rattle.archive_state.specs.Applied.{applied};
 ghost use Rattle.archive_state.specs.Changes.{Changes};
@@ -11,6 +11,7 @@ ghost use Rattle.archive_state.specs.declared.changes.Numbered.{Numbered};
 ghost use Rattle.store_tables.specs.Rows.{Rows, LineRow, PackRow, RecordRow};
 ghost use Rattle.store_rows.specs.Links.{KeepsLinks};
 ghost use Rattle.store_rows.specs.Meaning.{Means, has_record};
+ghost use Rattle.store_rows.specs.Pasts.{AddsPasts, with_all_changes};
 ghost use Rattle.store_rows.specs.Sought.{KeepsSought};
 ghost use Rattle.store_rows.specs.Spans.{AreDrawn, Drawn, IsDated, KeepsSpans, with_dated_changes};
 ghost use Rattle.store_rows.specs.Writing.{with_changes};
@@ -68,4 +69,32 @@ pub fn rows_of_other_numbers_stay()
         (λ (p : PackRow). p.no == m) rows.packs)
         × (filter (λ (r : RecordRow). r.no == m) (with_changes changes rows).records ≡ filter
         (λ (r : RecordRow). r.no == m) rows.records) }
+{}
+
+/// Values of before change nothing of what rows mean, nor of what goes with records.
+pub fn values_of_before_say_nothing_of_records()
+    ensures means { (changes : Changes) (drawn : Drawn) (pasts : List Numbered) (rows : Rows) (c : Content)
+        → Means (with_dated_changes changes drawn rows) c → Means (with_all_changes changes drawn pasts rows) c }
+    ensures spans { (changes : Changes) (drawn : Drawn) (pasts : List Numbered) (rows : Rows) (c : Content)
+        → KeepsSpans (with_dated_changes changes drawn rows) c
+        → KeepsSpans (with_all_changes changes drawn pasts rows) c }
+    ensures links { (changes : Changes) (drawn : Drawn) (pasts : List Numbered) (rows : Rows) (c : Content)
+        → KeepsLinks (with_dated_changes changes drawn rows) c
+        → KeepsLinks (with_all_changes changes drawn pasts rows) c }
+    ensures soughts { (changes : Changes) (drawn : Drawn) (pasts : List Numbered) (rows : Rows) (c : Content)
+        → KeepsSought (with_dated_changes changes drawn rows) c
+        → KeepsSought (with_all_changes changes drawn pasts rows) c }
+    ensures dated { (changes : Changes) (drawn : Drawn) (pasts : List Numbered) (rows : Rows)
+        → IsDated (with_dated_changes changes drawn rows) → IsDated (with_all_changes changes drawn pasts rows) }
+    ensures society { (changes : Changes) (drawn : Drawn) (pasts : List Numbered) (rows : Rows)
+        → (with_all_changes changes drawn pasts rows).society ≡ (with_dated_changes changes drawn rows).society }
+{}
+
+/// Where the changes of a request are written, the values of before that there were are as they were, and one of each
+/// record that is handed over comes after them, under the token of the request. Without such records nothing is added.
+pub fn values_of_before_stay()
+    ensures adds { (changes : Changes) (drawn : Drawn) (pasts : List Numbered) (rows : Rows)
+        → AddsPasts changes.kept pasts rows (with_all_changes changes drawn pasts rows) }
+    ensures none { (changes : Changes) (drawn : Drawn) (rows : Rows)
+        → with_all_changes changes drawn [] rows ≡ with_dated_changes changes drawn rows }
 {}

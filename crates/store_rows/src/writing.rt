@@ -1,6 +1,7 @@
 //! The changes of a request, written as rows inside a transaction.
 
 mod link_rows;
+mod past_rows;
 mod record_rows;
 mod slip_rows;
 mod sought_rows;
@@ -14,6 +15,7 @@ ghost use Rattle.record_text.specs.declared.refusal.RefusalKind.TheVariants.{Out
 ghost use Rattle.archive_state.specs.Applied.{applied};
 ghost use Rattle.archive_state.specs.Content.{Content};
 ghost use Rattle.store_rows.specs.Meaning.{AllShallow};
+ghost use Rattle.store_rows.specs.Pasts.{FollowsAll};
 ghost use Rattle.store_rows.specs.Shallow.{AreShallowChanges};
 ghost use Rattle.store_rows.specs.Spans.{AreDrawn, Drawn, FollowsDrawn, with_all_of, without_all_of};
 ghost use Rattle.store_rows.specs.Writing.{with_changes, with_kept_written};
@@ -29,7 +31,8 @@ use store_tables::rows;
 
 /// Writes the changes of a request, and the spans of the records that it puts, in tables that have spans. What the rows
 /// meant, they then mean with the changes made; where each record had its span, each has it afterwards; and where all
-/// records could be read, all can be read.
+/// records could be read, all can be read. `pasts` are the records of before whose values are kept under the token of
+/// the request, in this order: of most requests none.
 ///
 /// 80: the database answered an error. 1: memory for the lines of a record was refused. After either the transaction is
 /// to be given up, since a part may be written.
@@ -37,15 +40,17 @@ pub fn write_changes<S: Alter>(
     alloc: Global,
     tx: &mut Transaction<'_, S>,
     changes: &Changes,
+    pasts: &[Numbered],
 ) -> Result<(), RefusalKind>
     ensures same_reference { tx.new.conn.ghost_name ≡ tx.old.conn.ghost_name }
     ensures ok { HasCleanDisk (state S.Store tx.new.conn.now)
-        → OnOk result (FollowsDrawn (state S.Store tx.old.conn.now) (state S.Store tx.new.conn.now) changes.now) }
+        → OnOk result (FollowsAll (state S.Store tx.old.conn.now) (state S.Store tx.new.conn.now)
+        changes.now pasts.now) }
     ensures survives { LeavesAsBefore (state S.Store tx.old.conn.now) (state S.Store tx.new.conn.now) }
     ensures shallow { OnOk result ((c : Content) → AllShallow c → AllShallow (applied c changes.now)) }
     ensures refused { IfErr result (λ kind. (kind ≡ OutOfMemory) ⊎ (kind ≡ Storage)) }
 {
-    match write_dated(alloc, tx, changes) {
+    match write_wholly(alloc, tx, changes, pasts) {
         Ok(()) => Ok(()),
         Err(why) => Err(kind_of(why)),
     }
@@ -95,6 +100,24 @@ pub fn kind_of(why: Unwritten) -> RefusalKind
 }
 
 /// The same, but for the refusals.
+fn write_wholly<S: Alter>(
+    alloc: Global,
+    tx: &mut Transaction<'_, S>,
+    changes: &Changes,
+    pasts: &[Numbered],
+) -> Result<(), Unwritten>
+    ensures same_reference { tx.new.conn.ghost_name ≡ tx.old.conn.ghost_name }
+    ensures ok { HasCleanDisk (state S.Store tx.new.conn.now)
+        → OnOk result (FollowsAll (state S.Store tx.old.conn.now) (state S.Store tx.new.conn.now)
+        changes.now pasts.now) }
+    ensures survives { LeavesAsBefore (state S.Store tx.old.conn.now) (state S.Store tx.new.conn.now) }
+    ensures shallow { OnOk result (AreShallowChanges changes.now) }
+{
+    write_dated(alloc, tx, changes)?;
+    past_rows::write_pasts(alloc, tx, &changes.kept, pasts)
+}
+
+/// The changes and what goes with them, without values of before.
 fn write_dated<S: Alter>(
     alloc: Global,
     tx: &mut Transaction<'_, S>,

@@ -65,7 +65,7 @@ use Rattle.store_tables.proofs.Writing.{updates, deletes, cast_int, cast_null, R
 use Rattle.store_tables.proofs.Finding.{simple, answered}
 use Rattle.store_tables.proofs.Coded.{same_int, keeps_less, keeps_on}
 use Rattle.store_tables.proofs.Changing.{at_key, none_changed, keeps_changed}
-use Rattle.store_tables.proofs.Statements.{Becomes, becomes, no_work, others_of, own_on, sides_on, truth_of}
+use Rattle.store_tables.proofs.Statements.{Becomes, becomes, no_work, others_of, own_on, pasts_on, sides_on, truth_of}
 use Rattle.list_laws.proofs.Lists.{map_map}
 
 permutation_none : {X : Type 0} (ys : List X) → IsPermutation [] ys → ys ≡ []
@@ -127,6 +127,7 @@ closes_batch old new n count b has h =
             slips = keeps_on _ _ _ (same 5 (omega arith) (omega arith)) was.slips;
             sides = sides_on b rows db now edit applied (omega arith) (omega arith) fits was.sides;
             own = own_on b rows db now edit applied (omega arith) (omega arith) fits was.own;
+            pasts = pasts_on b rows db now edit applied (omega arith) fits was.pasts;
           }
       | inr (x, one, here) ↦
           let single : read ≡ shown x ∷ [] = one_permutation _ read
@@ -149,6 +150,7 @@ closes_batch old new n count b has h =
             slips = keeps_on _ _ _ (same 5 (omega arith) (omega arith)) was.slips;
             sides = sides_on b rows db now edit applied (omega arith) (omega arith) fits was.sides;
             own = own_on b rows db now edit applied (omega arith) (omega arith) fits was.own;
+            pasts = pasts_on b rows db now edit applied (omega arith) fits was.pasts;
           }
     ])
 
@@ -187,4 +189,5 @@ deletes_batch old new n count b has h =
       slips = keeps_on _ _ _ (same 5 (omega arith) (omega arith)) was.slips;
       sides = sides_on b rows db now edit applied (omega arith) (omega arith) fits was.sides;
       own = own_on b rows db now edit applied (omega arith) (omega arith) fits was.own;
+      pasts = pasts_on b rows db now edit applied (omega arith) fits was.pasts;
     })

@@ -184,8 +184,8 @@ still_ascends R p (x ∷ xs) h = go (p x) (still_ascends R p xs h.1)
     go true more = (kept_by (R x) p xs h.0, more)
     go false more = more
 
-rises_then : {X : Type 0} (R : X → X → Type 0) (xs : List X) (x : X) → IsAscending R xs → AllByRecursion (λ y. R y x) xs
-    → IsAscending R (xs ++ x ∷ [])
+pub rises_then : {X : Type 0} (R : X → X → Type 0) (xs : List X) (x : X) → IsAscending R xs
+    → AllByRecursion (λ y. R y x) xs → IsAscending R (xs ++ x ∷ [])
 rises_then R [] x h below = (tt, tt)
 rises_then R (y ∷ ys) x h below = (all_then (R y) ys x h.0 below.0, rises_then R ys x h.1 below.1)
 

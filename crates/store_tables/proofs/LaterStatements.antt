@@ -31,16 +31,19 @@ use Rattle.store_tables.specs.Rows.{
   SpanRow,
   LinkRow,
   SoughtRow,
+  PastRow,
   Holds,
   HoldsOwn,
+  HoldsPasts,
   HoldsSides,
   Keeps,
   KeepsLater,
+  KeepsPasts,
   slip_pack_values,
   slip_place,
 }
 use Rattle.store_tables.proofs.Coded.{keeps_on}
-use Rattle.store_tables.proofs.Statements.{no_late_index, others_of, sides_on}
+use Rattle.store_tables.proofs.Statements.{no_late_index, others_of, pasts_on, sides_on}
 
 -- what a statement makes of tables that have spans
 pub record BecomesDated (old new : State) (f : Rows → Rows) : Type 0 where
@@ -91,9 +94,9 @@ kept_of rows t dated was = (own_of rows t dated was).1
 -- a change of one of them leaves the tables that both schemas have
 pub beside : (rows : Rows) (packs : List PackRow) (spans : List SpanRow) (links : List LinkRow)
     (soughts : List SoughtRow) (old new : Trees) (edit : Edit) → Applies (archive_schema true) Enforced old edit new
-    → 10 < edit.table.tree → rows.has_spans ≡ true → KeepsLater packs spans links soughts new → Holds rows old
-    → Holds (record rows { packs = packs; spans = spans; links = links; soughts = soughts }) new
-beside rows packs spans links soughts old new edit a high dated kept was =
+    → 10 < edit.table.tree → edit.table.tree < 15 → rows.has_spans ≡ true → KeepsLater packs spans links soughts new
+    → Holds rows old → Holds (record rows { packs = packs; spans = spans; links = links; soughts = soughts }) new
+beside rows packs spans links soughts old new edit a high low dated kept was =
     let same = others_of true old new edit a in
     record {
       meta = same 0 (omega arith) (omega (arith, high)) ∙ was.meta;
@@ -103,6 +106,7 @@ beside rows packs spans links soughts old new edit a high dated kept was =
       slips = keeps_on _ _ _ (same 5 (omega arith) (omega (arith, high))) was.slips;
       sides = sides_on true rows old new edit a (omega (arith, high)) (omega (arith, high)) dated was.sides;
       own = in_second rows packs spans links soughts new dated (own_of rows old dated was).0 kept;
+      pasts = pasts_on true rows old new edit a (omega (arith, low)) dated was.pasts;
     }
 
 -- each of these tables but the one that is changed is as it was
@@ -139,4 +143,35 @@ sides_changed rows lines packs old new edit a here dated none kept was =
             soughts_kept = keeps_on _ _ _ (late 14 (omega arith) (omega arith) (omega (arith, here)))
                 later.soughts_kept;
           });
+      pasts = pasts_on true rows old new edit a (omega (arith, here)) dated was.pasts;
+    }
+
+-- the values of before in an archive of the second schema
+pub pasts_of : (rows : Rows) (t : Trees) → rows.has_spans ≡ true → Holds rows t → KeepsPasts rows.pasts (t 15)
+pasts_of rows t dated was = subst (λ b. HoldsPasts b rows.pasts t) dated was.pasts
+
+-- a change of these leaves all other tables
+pub pasts_changed : (rows : Rows) (pasts : List PastRow) (old new : Trees) (edit : Edit)
+    → Applies (archive_schema true) Enforced old edit new → edit.table.tree ≡ 15 → rows.has_spans ≡ true
+    → KeepsPasts pasts (new 15) → Holds rows old → Holds (record rows { pasts = pasts }) new
+pasts_changed rows pasts old new edit a here dated kept was =
+    let same = others_of true old new edit a in
+    let late = late_same old new edit a in
+    let later = kept_of rows old dated was in
+    record {
+      meta = same 0 (omega arith) (omega (arith, here)) ∙ was.meta;
+      batches = keeps_on _ _ _ (same 1 (omega arith) (omega (arith, here))) was.batches;
+      records = keeps_on _ _ _ (same 2 (omega arith) (omega (arith, here))) was.records;
+      receipts = keeps_on _ _ _ (same 4 (omega arith) (omega (arith, here))) was.receipts;
+      slips = keeps_on _ _ _ (same 5 (omega arith) (omega (arith, here))) was.slips;
+      sides = sides_on true rows old new edit a (omega (arith, here)) (omega (arith, here)) dated was.sides;
+      own = in_second rows rows.packs rows.spans rows.links rows.soughts new dated (own_of rows old dated was).0
+          (record {
+            packs_kept = keeps_on _ _ _ (late 11 (omega arith) (omega arith) (omega (arith, here))) later.packs_kept;
+            spans_kept = keeps_on _ _ _ (late 12 (omega arith) (omega arith) (omega (arith, here))) later.spans_kept;
+            links_kept = keeps_on _ _ _ (late 13 (omega arith) (omega arith) (omega (arith, here))) later.links_kept;
+            soughts_kept = keeps_on _ _ _ (late 14 (omega arith) (omega arith) (omega (arith, here)))
+                later.soughts_kept;
+          });
+      pasts = subst (λ b. HoldsPasts b pasts new) (sym dated) kept;
     }

@@ -16,6 +16,7 @@ use Rattle.store_tables.specs.Rows.{
   pair_cmp,
   put_pair,
   with_link,
+  with_past,
   with_pack,
   with_sought,
   without_link,
@@ -120,6 +121,24 @@ typed_pack n ls low top lines text rows t = record {
   lines = t.lines;
   packs = put_all _ (λ (p : PackRow). p.no) _ rows.packs
       (record { number = low; top = top; lines = lines; text = text }) t.packs;
+  receipts = t.receipts;
+  slips = t.slips;
+  slip_lines = t.slip_lines;
+  slip_packs = t.slip_packs;
+  spans = t.spans;
+  links = t.links;
+  soughts = t.soughts;
+}
+
+pub typed_past : (n : ℕ) (token text : List ℕ) (rows : Rows) → AreTyped rows → AreTyped (with_past n token text rows)
+typed_past n token text rows t = record {
+  version = t.version;
+  dated = t.dated;
+  society = t.society;
+  batches = t.batches;
+  records = t.records;
+  lines = t.lines;
+  packs = t.packs;
   receipts = t.receipts;
   slips = t.slips;
   slip_lines = t.slip_lines;

@@ -26,7 +26,10 @@ pub mod Packing
 mod PackQueries
 pub mod PackTexts
 pub mod Pairing
-pub mod Preparing
+pub mod PastQueries
+mod PastStatements
+mod PastTexts
+mod Preparing
 pub mod Queries
 pub mod ReadingRows
 pub mod Reopening

@@ -87,7 +87,7 @@ use Rattle.store_tables.proofs.Writing.{inserts, deletes, cast_int, cast_null}
 use Rattle.store_tables.proofs.Finding.{simple, answered}
 use Rattle.store_tables.proofs.Coded.{same_int, int_order, keeps_less, keeps_on, keeps_put}
 use Rattle.store_tables.proofs.LaterStatements.{beside, kept_of, late_same}
-use Rattle.store_tables.proofs.Statements.{Becomes, becomes, cast_number, others_of, sides_on, truth_of}
+use Rattle.store_tables.proofs.Statements.{Becomes, becomes, cast_number, others_of, pasts_on, sides_on, truth_of}
 use Rattle.list_laws.proofs.Lists.{map_map}
 
 no_work_3 : (olds : List Row) → works (archive_schema false) Enforced 0 3 olds [] ≡ []
@@ -149,6 +149,7 @@ module _ (sql : List ℕ) (params : Row) (tests : List Term) (q : LineRow → Bo
               own.3,
               own.4,
             );
+        pasts = pasts_on false rows db now edit applied (omega arith) fits was.pasts;
       })
 
 -- a DELETE of rows with all lines
@@ -198,6 +199,7 @@ module _ (sql : List ℕ) (params : Row) (tests : List Term) (q : LineRow → Bo
                 soughts_kept = keeps_on _ _ _ (late 14 (omega arith) (omega arith) (omega arith)) own.1.soughts_kept;
               },
             );
+        pasts = pasts_on true rows db now edit applied (omega arith) fits was.pasts;
       })
 
 -- ---- the lines of a number
@@ -290,7 +292,7 @@ inserts_pack old new n ls count true has h =
     becomes true old new w.sound did.0 (λ _. refl) (λ rows fits was.
     let kept = kept_of rows db fits was in
     let after = put_by (λ (p : PackRow). p.no) item rows.packs in
-    beside rows after rows.spans rows.links rows.soughts db now edit applied (omega arith) fits (record {
+    beside rows after rows.spans rows.links rows.soughts db now edit applied (omega arith) (omega arith) fits (record {
       packs_kept = keeps_on _ _ (now 11) (applied.rows ∙ row)
           (keeps_put pack_values (λ (p : PackRow). p.no) (λ _. refl) item rows.packs (db 11) kept.packs_kept);
       spans_kept = keeps_on _ _ _ (late 12 (omega arith) (omega arith) (omega arith)) kept.spans_kept;

@@ -131,7 +131,7 @@ inserts_link old new target n count low has h =
       holds = λ rows dated typed was.
           let kept = kept_of rows db dated was in
           beside rows rows.packs rows.spans (put_pair item rows.links) rows.soughts db now edit applied (omega arith)
-          dated (record {
+          (omega arith) dated (record {
             packs_kept = keeps_on _ _ _ (late 11 (omega arith) (omega arith) (omega arith)) kept.packs_kept;
             spans_kept = keeps_on _ _ _ (late 12 (omega arith) (omega arith) (omega arith)) kept.spans_kept;
             links_kept = subst (λ ls. Keeps link_values link_place ls (now 13))
@@ -227,7 +227,8 @@ deletes_link old new target n count low has h =
           let less = keeps_less_at integer_at integer_order link_values link_place (λ _. refl)
           (λ x. link_place x == place) rows.links (db 13) (ids_of found) ids kept.links_kept in
           let after = filter (λ (x : LinkRow). not (is_pair target n x)) rows.links in
-          beside rows rows.packs rows.spans after rows.soughts db now edit applied (omega arith) dated (record {
+          beside rows rows.packs rows.spans after rows.soughts db now edit applied (omega arith) (omega arith)
+          dated (record {
             packs_kept = keeps_on _ _ _ (late 11 (omega arith) (omega arith) (omega arith)) kept.packs_kept;
             spans_kept = keeps_on _ _ _ (late 12 (omega arith) (omega arith) (omega arith)) kept.spans_kept;
             links_kept = subst (λ ls. Keeps link_values link_place ls (now 13))

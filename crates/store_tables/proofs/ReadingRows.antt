@@ -71,7 +71,7 @@ pub token_utf8 : (t : List ℕ) → IsToken t → IsUtf8 t
 token_utf8 t is = IsUtf8-from_ascii t (ascii_of is_printable low_printable t is.printed)
 
 -- ---- the rows of a table
-each_is : {X Y : Type 0} (shown : X → Row) (read : X → Y) (Shows : Row → Y → Type 0) (xs : List X) (ys : List Y)
+pub each_is : {X Y : Type 0} (shown : X → Row) (read : X → Y) (Shows : Row → Y → Type 0) (xs : List X) (ys : List Y)
     → EachWith (IsReadAs shown read Shows) (map shown xs) ys → ys ≡ map read xs
 each_is shown read Shows [] [] h = refl
 each_is shown read Shows [] (y ∷ ys) h = absurd h

@@ -92,7 +92,8 @@ inserts_sought old new n text target count has h =
       holds = λ rows dated typed was.
           let kept = kept_of rows db dated was in
           let after = put_by (λ (s : SoughtRow). s.no) item rows.soughts in
-          beside rows rows.packs rows.spans rows.links after db now edit applied (omega arith) dated (record {
+          beside rows rows.packs rows.spans rows.links after db now edit applied (omega arith) (omega arith)
+          dated (record {
             packs_kept = keeps_on _ _ _ (late 11 (omega arith) (omega arith) (omega arith)) kept.packs_kept;
             spans_kept = keeps_on _ _ _ (late 12 (omega arith) (omega arith) (omega arith)) kept.spans_kept;
             links_kept = keeps_on _ _ _ (late 13 (omega arith) (omega arith) (omega arith)) kept.links_kept;
@@ -141,7 +142,8 @@ deletes_sought old new n count has h =
           (map_map _ _ (filter (λ (x : SoughtRow). x.no == n) rows.soughts))
           (IsPermutation-map (λ r. id_in (rowid r)) _ _ all) in
           let after = filter (λ (x : SoughtRow). not (x.no == n)) rows.soughts in
-          beside rows rows.packs rows.spans rows.links after db now edit applied (omega arith) dated (record {
+          beside rows rows.packs rows.spans rows.links after db now edit applied (omega arith) (omega arith)
+          dated (record {
             packs_kept = keeps_on _ _ _ (late 11 (omega arith) (omega arith) (omega arith)) kept.packs_kept;
             spans_kept = keeps_on _ _ _ (late 12 (omega arith) (omega arith) (omega arith)) kept.spans_kept;
             links_kept = keeps_on _ _ _ (late 13 (omega arith) (omega arith) (omega arith)) kept.links_kept;

@@ -80,7 +80,7 @@ use Rattle.store_tables.proofs.SpanTexts.{
 }
 use Rattle.store_tables.proofs.Writing.{inserts, deletes, updates, cast_int, cast_null}
 use Rattle.store_tables.proofs.Finding.{simple, answered}
-use Rattle.store_tables.proofs.Statements.{Becomes, becomes, no_work, others_of, own_on, sides_on, truth_of}
+use Rattle.store_tables.proofs.Statements.{Becomes, becomes, no_work, others_of, own_on, pasts_on, sides_on, truth_of}
 use Rattle.store_tables.proofs.Coded.{same_int, keeps_put, keeps_less, keeps_on}
 use Rattle.list_laws.proofs.Lists.{map_map}
 
@@ -117,7 +117,8 @@ inserts_span old new n lo hi count has h =
       holds = λ rows dated typed was.
           let kept = kept_of rows db dated was in
           let after = put_by (λ (s : SpanRow). s.no) item rows.spans in
-          beside rows rows.packs after rows.links rows.soughts db now edit applied (omega arith) dated (record {
+          beside rows rows.packs after rows.links rows.soughts db now edit applied (omega arith) (omega arith)
+          dated (record {
             packs_kept = keeps_on _ _ _ (late 11 (omega arith) (omega arith) (omega arith)) kept.packs_kept;
             spans_kept = keeps_on _ _ (now 12) (applied.rows ∙ row)
                 (keeps_put span_values (λ (s : SpanRow). s.no) (λ _. refl) item rows.spans (db 12) kept.spans_kept);
@@ -164,7 +165,8 @@ deletes_span old new n count has h =
           subst (λ k. IsPermutation k (ids_of found)) (map_map _ _ (filter (λ (x : SpanRow). x.no == n) rows.spans))
           (IsPermutation-map (λ r. id_in (rowid r)) _ _ all) in
           let after = filter (λ (x : SpanRow). not (x.no == n)) rows.spans in
-          beside rows rows.packs after rows.links rows.soughts db now edit applied (omega arith) dated (record {
+          beside rows rows.packs after rows.links rows.soughts db now edit applied (omega arith) (omega arith)
+          dated (record {
             packs_kept = keeps_on _ _ _ (late 11 (omega arith) (omega arith) (omega arith)) kept.packs_kept;
             spans_kept = keeps_on _ _ (now 12) applied.rows
                 (keeps_less span_values (λ (s : SpanRow). s.no) (λ _. refl) (λ x. x.no == n) rows.spans (db 12)
@@ -213,6 +215,7 @@ sets_either old new count b has h =
       slips = keeps_on _ _ _ (same 5 (omega arith) (omega arith)) was.slips;
       sides = sides_on b c db now edit applied (omega arith) (omega arith) fits was.sides;
       own = own_on b c db now edit applied (omega arith) (omega arith) fits was.own;
+      pasts = pasts_on b c db now edit applied (omega arith) fits was.pasts;
     })
 
 pub sets_version : (old new : State) (count : ℕ) → old.now.schema ≡ archive_schema true

@@ -72,9 +72,11 @@ use Rattle.store_tables.specs.Rows.{
   SpanRow,
   LinkRow,
   SoughtRow,
+  PastRow,
   Holds,
   HoldsOwn,
   HoldsSides,
+  HoldsPasts,
   meta_values,
   batch_values,
   record_values,
@@ -214,6 +216,20 @@ sides_on b rows old new edit a early late fits was =
     (λ second. a.others 10 late (subst (λ c. IsNoIndex (archive_schema c) 10) (sym second ∙ fits)
     (no_late_index 10 (omega arith) (omega arith)))) was
 
+-- nor are the values of before, which only one of them has, changed with another table
+pasts_same : (b : Bool) (pasts : List PastRow) (old new : Trees) → (b ≡ true → new 15 ≡ old 15)
+    → HoldsPasts b pasts old → HoldsPasts b pasts new
+pasts_same false pasts old new late was = was
+pasts_same true pasts old new late was = record { is = late refl ∙ was.is; rise = was.rise }
+
+pub pasts_on : (b : Bool) (rows : Rows) (old new : Trees) (edit : Edit)
+    → Applies (archive_schema b) Enforced old edit new → 15 ≢ edit.table.tree → rows.has_spans ≡ b
+    → HoldsPasts rows.has_spans rows.pasts old → HoldsPasts rows.has_spans rows.pasts new
+pasts_on b rows old new edit a off fits was =
+    pasts_same rows.has_spans rows.pasts old new
+    (λ second. a.others 15 off (subst (λ c. IsNoIndex (archive_schema c) 15) (sym second ∙ fits)
+    (no_late_index 15 (omega arith) (omega arith)))) was
+
 -- what sets off nothing in either schema
 pub no_work : (b : Bool) (db : Trees) (edit : Edit)
     → works (archive_schema false) Enforced 0 edit.table.tree (taken_by db edit) edit.news ≡ []
@@ -255,6 +271,7 @@ inserts_batch old new n is_open count b has h =
       slips = keeps_on _ _ _ (same 5 (omega arith) (omega arith)) was.slips;
       sides = sides_on b rows db now edit applied (omega arith) (omega arith) fits was.sides;
       own = own_on b rows db now edit applied (omega arith) (omega arith) fits was.own;
+      pasts = pasts_on b rows db now edit applied (omega arith) fits was.pasts;
     })
 
 pub inserts_record : (old new : State) (n : ℕ) (kind : List ℕ) (batch : ℕ) (count : ℕ) (b : Bool)
@@ -288,6 +305,7 @@ inserts_record old new n kind batch count b has h =
       slips = keeps_on _ _ _ (same 5 (omega arith) (omega arith)) was.slips;
       sides = sides_on b rows db now edit applied (omega arith) (omega arith) fits was.sides;
       own = own_on b rows db now edit applied (omega arith) (omega arith) fits was.own;
+      pasts = pasts_on b rows db now edit applied (omega arith) fits was.pasts;
     })
 
 pub inserts_slip : (old new : State) (n keep gone : ℕ) (is_undone : Bool) (count : ℕ) (b : Bool)
@@ -325,6 +343,7 @@ inserts_slip old new n keep gone is_undone count b has h =
           (keeps_put slip_values (λ (s : SlipRow). s.no) (λ _. refl) item rows.slips (db 5) was.slips);
       sides = sides_on b rows db now edit applied (omega arith) (omega arith) fits was.sides;
       own = own_on b rows db now edit applied (omega arith) (omega arith) fits was.own;
+      pasts = pasts_on b rows db now edit applied (omega arith) fits was.pasts;
     })
 
 -- ---- rows whose key is chosen
@@ -366,6 +385,7 @@ inserts_receipt old new token receipt count b has h =
       slips = keeps_on _ _ _ (same 5 (omega arith) (omega arith)) was.slips;
       sides = sides_on b rows db now edit applied (omega arith) (omega arith) fits was.sides;
       own = own_on b rows db now edit applied (omega arith) (omega arith) fits was.own;
+      pasts = pasts_on b rows db now edit applied (omega arith) fits was.pasts;
     })
 
 -- ---- DELETE
@@ -438,6 +458,7 @@ deletes_record old new n count b has h =
       slips = keeps_on _ _ _ (same 5 (omega arith) (omega arith)) was.slips;
       sides = sides_on b rows db now edit applied (omega arith) (omega arith) fits was.sides;
       own = own_on b rows db now edit applied (omega arith) (omega arith) fits was.own;
+      pasts = pasts_on b rows db now edit applied (omega arith) fits was.pasts;
     })
 
 -- ---- UPDATE of the one row of meta
@@ -480,6 +501,7 @@ sets_next old new n count b has h =
       slips = keeps_on _ _ _ (same 5 (omega arith) (omega arith)) was.slips;
       sides = sides_on b c db now edit applied (omega arith) (omega arith) fits was.sides;
       own = own_on b c db now edit applied (omega arith) (omega arith) fits was.own;
+      pasts = pasts_on b c db now edit applied (omega arith) fits was.pasts;
     })
 
 -- ---- the first row, in a store whose tables have none
@@ -515,5 +537,6 @@ inserts_meta old new society count has empty h =
         slips = record { is = each 5 (omega arith) (omega arith); rise = tt };
         sides = (record { is = each 6 (omega arith) (omega arith); rise = tt }, refl);
         own = (record { is = each 3 (omega arith) (omega arith); rise = tt }, refl, refl, refl, refl);
+        pasts = refl;
       },
     )

@@ -76,6 +76,7 @@ use Rattle.store_tables.proofs.Statements.{
   no_work,
   others_of,
   own_on,
+  pasts_on,
   sides_on,
   only_restricted,
   only_restricted_slips,
@@ -137,6 +138,7 @@ updates_record old new n kind batch count b has h =
                   slips = keeps_on _ _ _ (same 5 (omega arith) (omega arith)) was.slips;
                   sides = sides_on b rows db now edit applied (omega arith) (omega arith) fits was.sides;
                   own = own_on b rows db now edit applied (omega arith) (omega arith) fits was.own;
+                  pasts = pasts_on b rows db now edit applied (omega arith) fits was.pasts;
                 }
             | inr (x, one, here) ↦
                 let single : read ≡ shown x ∷ [] = one_permutation _ read
@@ -159,6 +161,7 @@ updates_record old new n kind batch count b has h =
                   slips = keeps_on _ _ _ (same 5 (omega arith) (omega arith)) was.slips;
                   sides = sides_on b rows db now edit applied (omega arith) (omega arith) fits was.sides;
                   own = own_on b rows db now edit applied (omega arith) (omega arith) fits was.own;
+                  pasts = pasts_on b rows db now edit applied (omega arith) fits was.pasts;
                 }
           ]),
       λ rows was. elim (at_key key n rows.records was.records.rise) [
@@ -221,6 +224,7 @@ undoes_slip old new n count b has h =
                       (keeps_on _ _ (now 5) applied.rows was.slips);
                   sides = sides_on b rows db now edit applied (omega arith) (omega arith) fits was.sides;
                   own = own_on b rows db now edit applied (omega arith) (omega arith) fits was.own;
+                  pasts = pasts_on b rows db now edit applied (omega arith) fits was.pasts;
                 }
             | inr (x, one, here) ↦
                 let single : read ≡ shown x ∷ [] = one_permutation _ read
@@ -248,6 +252,7 @@ undoes_slip old new n count b has h =
                       (keeps_changed slip_values key (λ _. refl) n g x rows.slips (db 5) one here here was.slips);
                   sides = sides_on b rows db now edit applied (omega arith) (omega arith) fits was.sides;
                   own = own_on b rows db now edit applied (omega arith) (omega arith) fits was.own;
+                  pasts = pasts_on b rows db now edit applied (omega arith) fits was.pasts;
                 }
           ]),
       λ rows was. elim (at_key key n rows.slips was.slips.rise) [

@@ -8,7 +8,16 @@ use Rattle.sqlite.specs.Table.{Table}
 use Rattle.sqlite.specs.Tree.{Trees}
 use Rattle.store_tables.specs.Calls.{Inside, Widened}
 use Rattle.store_tables.specs.Creating.{IsCreate}
-use Rattle.store_tables.specs.Rows.{Rows, HoldsOwn, HoldsSides, Keeps, with_later_tables}
+use Rattle.store_tables.specs.Rows.{
+  Rows,
+  PastRow,
+  HoldsOwn,
+  HoldsPasts,
+  HoldsSides,
+  Keeps,
+  KeepsPasts,
+  with_later_tables,
+}
 use Rattle.store_tables.specs.Schema.{
   archive_schema,
   both_and,
@@ -150,6 +159,9 @@ no_rows : {X : Type 0} (values : X → Row) (key : X → ℕ) (xs : List X) (row
 no_rows values key xs rows none empty = subst (λ ys. Keeps values key ys rows) (sym none)
     (record { is = empty; rise = tt })
 
+no_pasts : (pasts : List PastRow) (rows : List Row) → pasts ≡ [] → rows ≡ [] → KeepsPasts pasts rows
+no_pasts ps rows none empty = subst (λ qs. KeepsPasts qs rows) (sym none) (record { is = empty; rise = tt })
+
 -- and after the last
 pub all_widened : (base new last : State) (rows : Rows) (count : ℕ) → rows.has_spans ≡ false → Inside base rows
     → Widened base.now.trees new (slip_packs ∷ packs ∷ spans ∷ links ∷ soughts ∷ pasts ∷ [])
@@ -166,7 +178,8 @@ all_widened base new last rows count undated began was ran =
     let held = began.good.holds in
     let none = subst (λ b. HoldsOwn b rows.lines rows.packs rows.spans rows.links rows.soughts base.now.trees) undated
     held.own in
-    let sides = subst (λ b. HoldsSides b rows.slip_lines rows.slip_packs base.now.trees) undated held.sides in (
+    let sides = subst (λ b. HoldsSides b rows.slip_lines rows.slip_packs base.now.trees) undated held.sides in
+    let before = subst (λ b. HoldsPasts b rows.pasts base.now.trees) undated held.pasts in (
       record {
         is_open = ran.1.is_open;
         inside = ran.1.mode;
@@ -189,6 +202,7 @@ all_widened base new last rows count undated began was ran =
                 soughts_kept = no_rows _ _ rows.soughts (last.now.trees 14) none.4 empty.1.1.1.1.0;
               },
             );
+            pasts = no_pasts rows.pasts (last.now.trees 15) before empty.1.1.1.1.1.0;
           };
           typed = typed_later_tables rows began.good.typed;
         };

@@ -1,6 +1,7 @@
 -- The rows of one number or of one token, as they are read.
 use Rattle.std.specs.Prelude.{
   ℕ,
+  pos,
   ◌≡◌,
   ◌==◌,
   ◌&&◌,
@@ -22,6 +23,7 @@ use Rattle.std.specs.Prelude.{
   None,
 }
 use Rattle.std.specs.List.{list_any}
+use Rattle.std.specs.Ordering.{int_eq}
 use Rattle.stored_lines.specs.Line.{Label}
 use Rattle.receipts.specs.declared.answer.Receipt.{Receipt}
 use Rattle.store_tables.specs.Rows.{
@@ -36,6 +38,7 @@ use Rattle.store_tables.specs.Rows.{
   SlipSide,
   LinkRow,
   SoughtRow,
+  PastRow,
   lines_of,
 }
 use Rattle.store_tables.specs.Reading.{
@@ -118,3 +121,7 @@ sought_by text rows = map (λ (s : SoughtRow). s.no) (filter (λ (s : SoughtRow)
 abbrev pub sought_by_of : List ℕ → ℕ → Rows → List ℕ
 sought_by_of text n rows = map (λ (s : SoughtRow). s.no)
     (filter (λ (s : SoughtRow). bytes_eq s.text text && is_number n s.target) rows.soughts)
+
+-- the values of before of a number, by their keys
+abbrev pub pasts_at : ℕ → Rows → List PastRow
+pasts_at n rows = filter (λ (p : PastRow). int_eq p.no (pos n)) rows.pasts

@@ -4,6 +4,7 @@ pub mod Conversion
 pub mod Creating
 pub mod Keyed
 pub mod Looking
+pub mod Pasts
 pub mod Prepared
 pub mod Reading
 pub mod Rows

@@ -5,7 +5,13 @@ use Rattle.sqlite.specs.declared.types.Value.TheVariants.{Int}
 use Rattle.sqlite.specs.Order.{Row}
 use Rattle.sqlite.specs.State.{State, HasCleanDisk, Shown, FailsToQuery}
 use Rattle.record_text.specs.declared.refusal.RefusalKind.{RefusalKind}
-use Rattle.record_text.specs.declared.refusal.RefusalKind.TheVariants.{OutOfMemory, Storage, NewerSchema, NotAnArchive}
+use Rattle.record_text.specs.declared.refusal.RefusalKind.TheVariants.{
+  OutOfMemory,
+  Storage,
+  NewerSchema,
+  NotAnArchive,
+  BadStored,
+}
 use Rattle.store_tables.specs.Calls.{Settled, LeavesOnly}
 use Rattle.store_tables.specs.Rows.{Rows}
 use Rattle.store_tables.specs.declared.version.Version.{Version}
@@ -21,6 +27,16 @@ pub record Looks {A : Type 0} (Is : Rows → A → Type 0) (old new : State) (re
   pub read : HasCleanDisk new → IfOk result (λ (a : A). (rows : Rows) → Settled old rows → Is rows a)
   pub same : HasCleanDisk new → IfOk result (λ (_ : A). (rows : Rows) → Settled old rows → Settled new rows)
   pub refused : HasCleanDisk new → IfErr result (λ kind. (rows : Rows) → Settled old rows → IsFailure kind)
+  pub crash : HasCleanDisk new → (rows : Rows) → Settled old rows → LeavesOnly new rows
+  pub clean : HasCleanDisk new → HasCleanDisk old
+
+-- the same of rows some of which may be such as cannot be read: it is refused with 40, too, but only where one is
+pub record LooksUnless {A : Type 0} (Is : Rows → A → Type 0) (Reads : Rows → Type 0) (old new : State)
+    (result : Result A RefusalKind) : Type 0 where
+  pub read : HasCleanDisk new → IfOk result (λ (a : A). (rows : Rows) → Settled old rows → Is rows a)
+  pub same : HasCleanDisk new → IfOk result (λ (_ : A). (rows : Rows) → Settled old rows → Settled new rows)
+  pub refused : HasCleanDisk new → IfErr result (λ kind. (rows : Rows) → Settled old rows
+      → IsFailure kind ⊎ ((kind ≡ BadStored) × ¬ Reads rows))
   pub crash : HasCleanDisk new → (rows : Rows) → Settled old rows → LeavesOnly new rows
   pub clean : HasCleanDisk new → HasCleanDisk old
 

@@ -41,6 +41,7 @@ use Rattle.store_tables.specs.Rows.{
   SpanRow,
   LinkRow,
   SoughtRow,
+  PastRow,
   lines_in_side,
   link_place,
   slip_line_of,
@@ -97,6 +98,10 @@ pair_at place = record { target = place / 2 ^ 32; no = place % 2 ^ 32 }
 abbrev pub read_link : LinkRow → LinkRow
 read_link l = pair_at (link_place l)
 
+-- the key, the token and the text of a value of before
+abbrev pub read_past : PastRow → ℤ × (List ℕ × List ℕ)
+read_past p = (p.id, (p.token, p.text))
+
 abbrev pub read_of : Rows → ReadRows
 read_of rows = record {
   next = rows.next;
@@ -151,6 +156,10 @@ IsTypedLink l = IsU32 l.target × IsU32 l.no
 
 abbrev pub IsTypedSought : SoughtRow → Type 0
 IsTypedSought s = IsU32 s.no × IsText s.text × IfSome s.target IsU32
+
+-- a value of before that can be read, as not each row of theirs can
+abbrev pub IsTypedPast : PastRow → Type 0
+IsTypedPast p = IsToken p.token × IsUtf8 p.text
 
 -- each value of the rows is one of its type: numbers of 32 bits, texts, tags, tokens, digests of 32 bytes; and the
 -- second version has packs, spans, links and what is looked for

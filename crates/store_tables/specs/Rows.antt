@@ -7,6 +7,8 @@ use Rattle.std.specs.Prelude.{
   ◌*◌,
   ◌^◌,
   ◌-ℤ◌,
+  ◌+ℤ◌,
+  ◌<ℤ◌,
   not,
   true,
   false,
@@ -109,6 +111,14 @@ pub record SoughtRow : Type 0 where
   pub text : List ℕ
   pub target : Option ℕ
 
+-- a record as it was before a request: its number, the token of the request, and the text of all its stored lines.
+-- Whoever wrote the row, each is what the column may have, so that no row makes tables bad
+pub record PastRow : Type 0 where
+  pub id : ℤ
+  pub no : ℤ
+  pub token : List ℕ
+  pub text : List ℕ
+
 -- the version that `meta` shows, whether the schema is the second one, which has packs, spans, links and what is looked
 -- for, and no lines in rows of their own, neither of records nor of slips, the next number, the society, and the rows
 -- of each table in the order of their keys
@@ -128,6 +138,7 @@ pub record Rows : Type 0 where
   pub spans : List SpanRow
   pub links : List LinkRow
   pub soughts : List SoughtRow
+  pub pasts : List PastRow
 
 -- ---- the values of a row: first its key, and again nothing in the key's own column
 abbrev pub number_or_null : Option ℕ → Value
@@ -221,6 +232,9 @@ slip_pack_values s = Int (integer_at (slip_place s)) ∷ Null ∷ Int (pos s.sli
 abbrev pub sought_values : SoughtRow → Row
 sought_values s = Int (pos s.no) ∷ Null ∷ Words s.text ∷ number_or_null s.target ∷ []
 
+abbrev pub past_values : PastRow → Row
+past_values p = Int p.id ∷ Null ∷ Int p.no ∷ Words p.token ∷ Words p.text ∷ []
+
 -- ---- that trees hold the rows
 -- the rows of a tree are those of the items, whose keys ascend
 pub record Keeps {X : Type 0} (values : X → Row) (key : X → ℕ) (xs : List X) (tree : List Row) : Type 0 where
@@ -247,6 +261,16 @@ abbrev pub HoldsSides : Bool → List SlipLineRow → List SlipPackRow → Trees
 HoldsSides false lines packs t = Keeps slip_line_values (λ (s : SlipLineRow). s.id) lines (t 6) × (packs ≡ [])
 HoldsSides true lines packs t = (lines ≡ []) × Keeps slip_pack_values slip_place packs (t 10)
 
+-- the rows of a table whose keys may be any integers
+pub record KeepsPasts (pasts : List PastRow) (tree : List Row) : Type 0 where
+  pub is : tree ≡ map past_values pasts
+  pub rise : IsAscending (λ (a b : PastRow). a.id <ℤ b.id) pasts
+
+-- the values of before, of which only the second schema has a table
+abbrev pub HoldsPasts : Bool → List PastRow → Trees → Type 0
+HoldsPasts false pasts t = pasts ≡ []
+HoldsPasts true pasts t = KeepsPasts pasts (t 15)
+
 pub record Holds (rows : Rows) (t : Trees) : Type 0 where
   pub meta : t 0 ≡ meta_values rows ∷ []
   pub batches : Keeps batch_values (λ (b : BatchRow). b.no) rows.batches (t 1)
@@ -255,6 +279,7 @@ pub record Holds (rows : Rows) (t : Trees) : Type 0 where
   pub slips : Keeps slip_values (λ (s : SlipRow). s.no) rows.slips (t 5)
   pub sides : HoldsSides rows.has_spans rows.slip_lines rows.slip_packs t
   pub own : HoldsOwn rows.has_spans rows.lines rows.packs rows.spans rows.links rows.soughts t
+  pub pasts : HoldsPasts rows.has_spans rows.pasts t
 
 -- ---- what one call makes of the rows
 -- the key of a row that gets the next one: one above the last
@@ -394,6 +419,22 @@ with_sought n text target rows =
 abbrev pub without_sought : ℕ → Rows → Rows
 without_sought n rows = record rows { soughts = filter (λ (s : SoughtRow). not (s.no == n)) rows.soughts }
 
+-- the key of the next value of before: one above the last, or 1
+abbrev pub next_past : List PastRow → ℤ
+next_past = fold (λ _ p. p.id +ℤ pos 1) (pos 1)
+
+-- the value of before of a number, after all others
+abbrev pub with_past : ℕ → List ℕ → List ℕ → Rows → Rows
+with_past n token text rows =
+    record rows {
+      pasts = rows.pasts ++ record {
+        id = next_past rows.pasts;
+        no = pos n;
+        token = token;
+        text = text;
+      } ∷ [];
+    }
+
 -- ---- the second schema, made of the first one: its tables have no rows yet, and the lines are gone, those of slips
 -- too; then `meta` shows its version
 abbrev pub with_later_tables : Rows → Rows
@@ -420,6 +461,7 @@ bare society = record {
   spans = [];
   links = [];
   soughts = [];
+  pasts = [];
 }
 
 abbrev pub nothing_yet : List ℕ → Rows

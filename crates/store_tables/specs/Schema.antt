@@ -152,7 +152,7 @@ soughts = a_table (codes "sought") 14 (codes "no")
     (a_column (codes "text") Text true ∷ a_column (codes "dst") Integer false ∷ [])
     (to_number_of (codes "record") 0 ∷ [])
 
--- records as they were before a request, under its token; nothing writes a row of it yet
+-- records as they were before a request, under its token
 abbrev pub pasts : Table
 pasts = a_table (codes "past") 15 (codes "id")
     (number (codes "no") ∷ a_column (codes "token") Text true ∷ a_column (codes "text") Text true ∷ []) []

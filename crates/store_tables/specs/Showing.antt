@@ -96,6 +96,10 @@ ShowsLink row l = column row 0 ≡ Int (integer_at (link_place l))
 abbrev pub ShowsSought : Row → SoughtRow → Type 0
 ShowsSought row s = IsNumberAt row 0 s.no × (column row 1 ≡ Words s.text) × (column row 2 ≡ number_or_null s.target)
 
+-- a key, a token and a text
+abbrev pub ShowsPast : Row → ℤ × (List ℕ × List ℕ) → Type 0
+ShowsPast row p = (column row 0 ≡ Int p.0) × (column row 1 ≡ Words p.1.0) × (column row 2 ≡ Words p.1.1)
+
 -- ---- what the queries show
 -- a query shows a row for each item, in their order
 abbrev pub ShowsEach : {Y : Type 0} → List ℕ → (Row → Y → Type 0) → State → State → List Y → Type 0

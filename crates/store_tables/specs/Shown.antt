@@ -17,6 +17,7 @@ use Rattle.store_tables.specs.Rows.{
   SpanRow,
   LinkRow,
   SoughtRow,
+  PastRow,
   day_or_null,
   first_tag,
   first_target,
@@ -69,3 +70,6 @@ shown_link l = Int (integer_at (link_place l)) ∷ []
 
 abbrev pub shown_sought : SoughtRow → Row
 shown_sought s = Int (pos s.no) ∷ Words s.text ∷ number_or_null s.target ∷ []
+
+abbrev pub shown_past : PastRow → Row
+shown_past p = Int p.id ∷ Words p.token ∷ Words p.text ∷ []

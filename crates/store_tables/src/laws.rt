@@ -7,6 +7,7 @@ ghost use Rattle.sqlite.specs.Tree.{Trees};
 ghost use Rattle.sqlite_catalog.specs.Listing.{IsSound};
 ghost use Rattle.store_tables.specs.Batches.{AreOwned};
 ghost use Rattle.store_tables.specs.Calls.{Good};
+ghost use Rattle.store_tables.specs.Pasts.{IsAboveAll, OthersLeavePasts};
 ghost use Rattle.store_tables.specs.Reading.{IsU32};
 ghost use Rattle.store_tables.specs.Rows.{LinkRow, Rows, integer_at, link_place, pair_cmp, pair_place};
 ghost use Rattle.store_tables.specs.Schema.{archive_schema};
@@ -30,4 +31,11 @@ pub fn integers_tell_their_pairs()
 /// and no such row of a batch that is not there.
 pub fn rows_are_owned()
     ensures { (rows : Rows) (t : Trees) → Good rows t → AreOwned rows }
+{}
+
+/// No call changes or removes a value of before: the one that writes such a value puts it after all others, under a key
+/// above theirs, and each other call leaves all of them.
+pub fn values_of_before_stay()
+    ensures above { (rows : Rows) (t : Trees) → Good rows t → IsAboveAll rows.pasts }
+    ensures others { OthersLeavePasts }
 {}

@@ -9,6 +9,7 @@ pub mod laws;
 pub mod lines;
 pub mod links;
 mod pairs;
+pub mod pasts;
 mod reading;
 pub mod records;
 pub mod rows;
@@ -22,7 +23,7 @@ mod version;
 pub use creating::{create, create_later_tables};
 pub use reading::{read_batches, read_records_by_batch, read_rows, society};
 pub use stored::{
-    BatchRow, LineRow, LinkRow, PackRow, ReceiptRow, RecordRow, SlipLineRow, SlipRow, SlipSide,
-    SoughtRow, SpanRow, StoredRows,
+    BatchRow, LineRow, LinkRow, PackRow, PastRow, ReceiptRow, RecordRow, SlipLineRow, SlipRow,
+    SlipSide, SoughtRow, SpanRow, StoredRows,
 };
 pub use version::{Version, check_tables, check_version};

@@ -8,6 +8,7 @@ ghost use Rattle.sqlite.specs.Listing.{understood};
 ghost use Rattle.sqlite.specs.State.{CommitsShowing, HasCleanDisk, Shown, FailsToQuery, Survives};
 ghost use Rattle.sqlite.specs.Values.{bound};
 ghost use Rattle.sqlite.proofs.Callers.{IsPlain};
+ghost use Rattle.record_text.specs.declared.refusal.RefusalKind.TheVariants.{BadStored};
 ghost use Rattle.store_tables.specs.Calls.{IsNoOther, Settled, LeavesOnly};
 ghost use Rattle.store_tables.specs.Conversion.{EachWith, read_meta};
 ghost use Rattle.store_tables.specs.Looking.{IsFailure, Looks, meta_query};
@@ -427,6 +428,7 @@ pub(crate) fn read_later<T: FromRow, S: Alter>(
     ensures refused { HasCleanDisk (state S.Store conn.new) → IfErr result (λ kind. IsFailure kind ⊎
         ((shown : List (List Value)) × Shown sql.now (bound params.now) (state S.Store conn.old)
         (state S.Store conn.new) shown × ¬ (AllByRecursion T.is_readable shown))) }
+    ensures named { IfErr result (λ kind. IsFailure kind ⊎ (kind ≡ BadStored)) }
     ensures same { HasCleanDisk (state S.Store conn.new)
         → IfOk result (λ _. (rows : Rows) → Settled (state S.Store conn.old) rows
         → Settled (state S.Store conn.new) rows) }

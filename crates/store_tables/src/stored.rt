@@ -217,8 +217,29 @@ impl Model for SoughtRow {
     ghost view = { λ a. record { no = a.number; text = a.text; target = a.target } };
 }
 
-/// All rows of an archive but its spans, its links and what is looked for, in the order of their keys. Lines are in
-/// rows of their own in the first schema, and in `packs` in the second one; those of slips are read one by one of both.
+/// A record as it was before a request: the key of its row, the token of the request, and the text of all stored lines
+/// of the record.
+#[derive(Drop)]
+pub struct PastRow {
+    pub id: i64,
+    pub token: Token,
+    pub text: String,
+}
+
+impl Model for PastRow {
+    ghost use Rattle.std.specs.Prelude.{ℕ, ℤ, List, string_bytes};
+    ghost use Rattle.std.specs.Coded.{coded×, coded_ℕ, coded_ℤ, coded_list};
+
+    ghost Value = { ℤ × (List ℕ × List ℕ) };
+
+    ghost coded = { coded× coded_ℤ (coded× (coded_list coded_ℕ) (coded_list coded_ℕ)) };
+
+    ghost view = { λ a. (a.id, (a.token, string_bytes a.text)) };
+}
+
+/// All rows of an archive but its spans, its links, what is looked for and values of before, in the order of their
+/// keys. Lines are in rows of their own in the first schema, and in `packs` in the second one; those of slips are read
+/// one by one of both.
 #[derive(Drop)]
 pub struct StoredRows {
     pub next: u64,

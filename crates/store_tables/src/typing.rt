@@ -41,6 +41,7 @@ ghost use Rattle.store_tables.specs.Reading.{
   IsTypedLine,
   IsTypedLink,
   IsTypedPack,
+  IsTypedPast,
   IsTypedReceipt,
   IsTypedSlip,
   IsTypedSlipPack,
@@ -49,6 +50,7 @@ ghost use Rattle.store_tables.specs.Reading.{
   read_record,
   read_line,
   read_link,
+  read_past,
   read_receipt,
   read_slip_line,
 };
@@ -59,6 +61,7 @@ ghost use Rattle.store_tables.specs.Showing.{
   ShowsMeta,
   ShowsNumber,
   ShowsPack,
+  ShowsPast,
   ShowsReceipt,
   ShowsRecord,
   ShowsSlip,
@@ -76,6 +79,7 @@ ghost use Rattle.store_tables.specs.Shown.{
   shown_line,
   shown_link,
   shown_pack,
+  shown_past,
   shown_receipt,
   shown_slip,
   shown_slip_line,
@@ -86,8 +90,8 @@ ghost use Rattle.store_tables.specs.Shown.{
 
 use crate::pairs::pair_of;
 use crate::stored::{
-    BatchRow, LineRow, LinkRow, PackRow, ReceiptRow, RecordRow, SlipLineRow, SlipPackRow, SlipRow,
-    SlipSide, SoughtRow, SpanRow,
+    BatchRow, LineRow, LinkRow, PackRow, PastRow, ReceiptRow, RecordRow, SlipLineRow, SlipPackRow,
+    SlipRow, SlipSide, SoughtRow, SpanRow,
 };
 use packed_rows::unpack;
 use receipts::{Answer, Receipt, Token};
@@ -418,6 +422,20 @@ impl FromRow for SoughtRow {
             number: value(row, 0)?,
             text: text_at(row, 1)?,
             target: value(row, 2)?,
+        })
+    }
+}
+
+impl FromRow for PastRow {
+    ghost reads_as = { IsReadAs shown_past read_past ShowsPast };
+
+    ghost is_readable = { ShowsTyped shown_past IsTypedPast };
+
+    fn from_row(_alloc: Global, row: &Row) -> Result<PastRow, RefusalKind> {
+        Ok(PastRow {
+            id: value(row, 0)?,
+            token: token_at(row, 1)?,
+            text: value(row, 2)?,
         })
     }
 }
