@@ -35,7 +35,7 @@ LINK = "INSERT OR IGNORE INTO link (id) VALUES (?1)"
 SOUGHT = "INSERT INTO sought (no, text, dst) VALUES (?1, ?2, ?3)"
 VERBS = (
     "person", "name", "sex", "family", "child", "event", "amend", "participant", "place", "repo", "source", "citation",
-    "entry", "link", "unlink", "remove", "partner", "unpartner",
+    "entry", "link", "unlink", "remove", "partner", "unpartner", "correct",
 )
 
 
@@ -82,6 +82,8 @@ def row(verb, k, persons):
             return ("partner", family, "husband", other)
         case "unpartner":
             return ("unpartner", family, wife)
+        case "correct":
+            return ("correct", event, "date", "4 MAY 1701")
 
 
 def entry_row(source, page, k):

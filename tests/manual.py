@@ -23,7 +23,7 @@ ORDER = re.compile(r"^const COMMANDS: .*?= \[(.*?)\];", re.MULTILINE | re.DOTALL
 NUMBER = re.compile(r"^number_of kind\.(\w+) = ([0-9]+)$", re.MULTILINE)
 SAID = re.compile(r"^    /// (.*)\.\n    (\w+),$", re.MULTILINE)
 # Refusals that only the libraries answer, no command.
-OF_LIBRARIES = {"StillCarried", "Reopen", "ImportOpen", "NoImport", "NotAllStaged"}
+OF_LIBRARIES = {"Reopen", "ImportOpen", "NoImport", "NotAllStaged"}
 
 
 def text_of(path):

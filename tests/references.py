@@ -32,6 +32,9 @@ h,partner,@f,wife,@d
 i,unpartner,@f,@d
 j,unchild,@f,@c
 aa,unparticipant,@e,1
+ab,correct,@e,place,@p
+ac,correct,@s,repository,@r
+ad,correct,@c,sex,M
 w,remove,@t
 """
 NUMBERS = {"a": 1, "b": 2, "r": 3, "s": 4, "q": 5, "p": 6, "f": 7, "c": 8, "e": 9, "t": 10, "y": 11, "d": 12, "g": 13}
@@ -60,6 +63,8 @@ ANSWERS = (
     ("the form comes first: UTF-8", b"v,name,@nope,\xff", b",refused,90,BadRow"),
     ("a mention is no reference", b"v,link,@a,@a,@a,why", b"v,refused,90,BadRow"),
     ("a participant is no reference", b"v,unparticipant,@a,@a", b"v,refused,90,BadRow"),
+    ("a corrected item is no reference", b"v,correct,@a,item,@a", b"v,refused,90,BadRow"),
+    ("a corrected place", b"v,correct,1,place,@q", b"v,refused,64,NoSuchField"),
     ("an item is no reference", b"v,entry,@a,BAPTISM,1,@a,,,,child,Tom", b"v,refused,90,BadRow"),
     ("before a text that is none", b"v,name,@nope,\"a\rb\"", b"v,refused,50,NoSuch"),
     ("before a token that is used", b"a,sex,@nope,M", b"a,refused,50,NoSuch"),

@@ -2,90 +2,46 @@
 
     python3 tests/requests/generate.py SEED COUNT [lasting]
 
-`lasting`: no row removes a record or merges persons, so that each row, whenever it is given again, is answered as
-before.
+`lasting`: no row removes or corrects a record or merges persons, so that each row, whenever it is given again, is
+answered as before.
 """
 
 import random
 import re
 import sys
 
+from corrected import Corrections, plain
+from drawn_words import (
+    BACK,
+    CORRECTED,
+    DATES,
+    DEEPEST,
+    FAMILY_TAGS,
+    ITEMS,
+    KINDS,
+    MENTIONS,
+    MOST,
+    NAMES,
+    ODD,
+    ODD_TOKENS,
+    ODD_VERBS,
+    OF_FIELD,
+    OF_MEMBERS,
+    OF_MENTION,
+    PAGES,
+    PARTNERSHIPS,
+    PERSON_TAGS,
+    PLACES,
+    QUALITIES,
+    REASONS,
+    ROLES,
+    ROLES_OF,
+    SEXES,
+    SHORT,
+    TITLES,
+    VALUES,
+)
 from table.making import LAST, field
-
-NAMES = ["John /Smith/", "Ann /Lee/", "", "Eva", 'a "b" c', "two\nlines", "x,y", "\u00e9 /\u4e2d/", " "]
-SEXES = ["M", "F", "U"]
-PERSON_TAGS = ["BIRT", "CHR", "DEAT", "BURI", "OCCU", "FACT", "EVEN", "RESI"]
-FAMILY_TAGS = ["MARR", "DIV", "ENGA", "CENS", "EVEN", "RESI"]
-DATES = ["", "", "1700", "1 may 1800", " abt  1700", "BET 1700 AND 1701", "()", "44b.c.", "about a day", "1731/32"]
-ROLES = ["", "witness", "witness", "a,b", "priest"]
-VALUES = ["", "", "at home", "two\nlines"]
-TITLES = ["Ashby register", "Wills", "", 'The "old" book, vol. 1', "two\nlines", " "]
-SHORT = ["", "", "Rev. Lee", "MS 4", "a,b"]  # authors, publishers, call numbers and pages
-PAGES = ["f. 3", "f. 3", "f. 4", "", "MS 4", "two\nlines", "p. \u00e9, verso"]  # of registers
-PARTNERSHIPS = ["husband", "wife"]
-REASONS = ["same farm", "same name, same year", "?", " ", 'says "of the Mill"\nhimself']
-ROLES_OF = {
-    "BAPTISM": ["child", "father", "mother", "godparent"],
-    "MARRIAGE": ["groom", "bride", "father-of-groom", "father-of-bride", "witness"],
-    "BURIAL": ["buried", "spouse", "father", "mother"],
-}
-MENTIONS = [1, 1, 2, 2, 3, 5]  # how many an entry has
-MOST = 100  # mentions of an entry
-ITEMS = 20  # items of a page that are drawn first
-QUALITIES = ["", "0", "1", "2", "3"]
-PLACES = ["Kent", "Ashby", "Mill Lane, Ashby", "\u00e9, \u4e2d", "two\nlines", "The \"Mill\"", ", Kent"]
-DEEPEST = 8  # places within each other, so that no path passes the limits
-
-# The kinds of the fields of each verb: number, text, sex, tag, date, quality, place's name, kind of an entry, item,
-# place of a mention or of a participant, reason, or role of a partner. Behind those of an entry come a role and a text
-# for each mention.
-KINDS = {
-    "person": "TS",
-    "name": "NT",
-    "sex": "NS",
-    "family": "NN",
-    "child": "NN",
-    "event": "NGTDN",
-    "amend": "NTDN",
-    "participant": "NNT",
-    "place": "PN",
-    "repo": "T",
-    "source": "TTTNT",
-    "citation": "NNTQ",
-    "entry": "NKTIDNT",
-    "link": "NMNW",
-    "unlink": "NM",
-    "merge": "NN",
-    "undo": "N",
-    "remove": "N",
-    "partner": "NHN",
-    "unpartner": "NN",
-    "unchild": "NN",
-    "unparticipant": "NM",
-}
-OF_MENTION = "RT"
-OF_MEMBERS = ("child", "partner", "unpartner", "unchild", "unparticipant")
-# Those that change a record which may have had the new value before.
-BACK = ("sex", "amend", "link", "unlink", "participant", *OF_MEMBERS)
-ODD = {
-    "N": ["0", "00000000001", str(LAST + 1), "+1", "1a", " 1", str(LAST), "1000", "1000", "1000"],
-    "T": ["a\rb", "a\0b"],
-    "S": ["X", "m"],
-    "G": ["birt", "NAME", "HUSB", "", "a\0b"],
-    "D": ["a\rb", "a\0b", "(\r)"],
-    "Q": ["4", "03", " 1", "q"],
-    "P": ["", " Kent", "Ashby,Kent", "Kent ", ",", "a\rb", ", ".join("A" * 33)],
-    "K": ["", "baptism", "BURIAL ", "BIRT", "CHRISTENING"],
-    "I": ["0", "1000000", "00000000001", "", "+1", "9999999999", "0001000000", "x"],
-    "M": ["0", "00000000001", "", "-1", "101", str(LAST), str(LAST + 1)],
-    "R": ["", "Child", "widow", "father of groom", "a\rb", "a\0b"],
-    "W": ["", "", "a\rb", "a\0b"],
-    "H": ["", "Wife", "husband ", "HUSB", "child", "M"],
-}
-ODD_VERBS = [
-    "frob", "", "Person", "person ", "personal", "repository", "removed", "Entry", "links", "entries", "merged", "Undo"
-]
-ODD_TOKENS = ["", "a b", "x" * 65, "\u00e9", "!", "~", "a,b", "x" * 64, "\x7f"]
 
 
 class Slip:
@@ -98,7 +54,7 @@ class Slip:
         self.is_open = True
 
 
-class Rows:
+class Rows(Corrections):
     """The rows of one archive. It keeps what stands at which number, and what each record names."""
 
     def __init__(self, rng, removes):
@@ -112,6 +68,8 @@ class Rows:
         self.names = {}  # the numbers that each record names
         self.members = {}  # the partners and the children of each family
         self.parties = {}  # the owner of each event, and after it the participants
+        self.traits = {}  # of each person how many names, the sex, and whether a line of another one is carried
+        self.calls = set()  # the sources with a call number
         self.slips = {}  # what each merge changed
         self.stamps = {}  # which change of each record was the last
         self.changed = 0
@@ -157,6 +115,8 @@ class Rows:
         self.parties.pop(number, None)
         self.keys.pop(number, None)
         self.links.pop(number, None)
+        self.traits.pop(number, None)
+        self.calls.discard(number)
         for numbers in self.kinds().values():
             if number in numbers:
                 numbers.remove(number)
@@ -261,6 +221,9 @@ class Rows:
         number = self.rng.choice(self.entries)
         return [self.spelt(number), self.of(list(self.links[number]))]
 
+    def kind_of(self, number):
+        return next((kind for kind, numbers in self.kinds().items() if number in numbers), None)
+
     def is_clash(self, keep, gone):
         """Whether both are of one family, but not both as its children."""
         members = self.members.values()
@@ -286,12 +249,14 @@ class Rows:
     def as_is(self, number):
         """What is kept of a record."""
         links, members, parties = self.links.get(number), self.members.get(number), self.parties.get(number)
+        traits = self.traits.get(number)
         return (
             self.stamps[number],
             set(self.names[number]),
             None if links is None else dict(links),
             None if members is None else tuple(set(some) for some in members),
             None if parties is None else list(parties),
+            None if traits is None else list(traits),
         )
 
     def note_merge(self, keep, gone):
@@ -308,6 +273,8 @@ class Rows:
                 )
             if number in self.parties:
                 self.parties[number] = [keep if one == gone else one for one in self.parties[number]]
+        (names, sex, carries), (others, other, has_other) = self.traits[keep], self.traits[gone]
+        self.traits[keep] = [names + others, sex or other, carries or has_other or "" not in (sex, other)]
         self.take_out(gone)
         for number in (keep, *changed):
             self.touch(number)
@@ -319,7 +286,7 @@ class Rows:
         if not slip.is_open or not self.has_new(slip):
             return
         slip.is_open = False
-        for number, (stamp, named, links, members, parties) in slip.old.items():
+        for number, (stamp, named, links, members, parties, traits) in slip.old.items():
             self.touch(number, stamp)
             self.names[number] = named
             if links is not None:
@@ -328,6 +295,8 @@ class Rows:
                 self.members[number] = members
             if parties is not None:
                 self.parties[number] = parties
+            if traits is not None:
+                self.traits[number] = traits
             if slip.new[number] is None:
                 self.people.append(number)
 
@@ -361,16 +330,22 @@ class Rows:
             found += ["undo"] * 2
         if self.removes and not all(self.is_named(number) for number in self.names):
             found += ["remove"]
+        if self.removes and any(numbers for kind, numbers in self.kinds().items() if kind in CORRECTED):
+            found += ["correct"] * 4
         return found
 
     def note(self, verb, fields):
         """Keeps what an accepted command makes, names and removes."""
-        named = {int(one) for one, kind in zip(fields, KINDS[verb]) if kind == "N" and one}
+        named = {int(one) for one, kind in zip(fields, kinds_of(verb, fields)) if kind == "N" and one}
         made = self.kinds().get(verb)
         if made is not None:
             made.append(self.next)
             self.names[self.next] = named
             self.touch(self.next)
+            if verb == "person":
+                self.traits[self.next] = [1, fields[1], False]
+            if verb == "source" and fields[4]:
+                self.calls.add(self.next)
             if verb == "family":
                 self.members[self.next] = (set(named), set())
             if verb == "event":
@@ -399,6 +374,12 @@ class Rows:
             self.members[number][verb == "child"].update(named - {number})
         if verb == "participant":
             self.parties[number].append(int(fields[1]))
+        if verb == "name":
+            self.traits[number][0] += 1
+        if verb == "sex":
+            self.traits[number][1] = fields[1]
+        if verb == "correct":
+            before = before - self.note_correction(number, *fields[1:])
         if verb in ("unpartner", "unchild"):
             self.members[number][verb == "unchild"].discard(int(fields[1]))
             before, named = set.union(*self.members[number]), set()
@@ -465,6 +446,8 @@ class Rows:
                 self.spelt(len(self.links[int(fields[0])]) + self.rng.choice([1, 1, 2, 9])),
                 *fields[2:],
             ]
+        if verb == "correct":
+            return [verb, *self.odd_correction(*fields)]
         kinds = kinds_of(verb, fields)
         at = self.rng.randrange(len(fields))
         fields[at] = self.wrong(verb, kinds[at], at)
@@ -575,6 +558,8 @@ class Rows:
         already."""
         if verb == "entry":
             return fields in self.doubled
+        if verb == "correct":
+            return len(fields) == 3
         return verb in ("remove", *OF_MEMBERS) and is_well_formed(verb, fields)
 
     def is_accepted(self, verb, *fields):
@@ -583,6 +568,8 @@ class Rows:
             return int(fields[0]) in self.names and not self.is_named(int(fields[0]))
         if verb in OF_MEMBERS:
             return self.fits(verb, fields)
+        if verb == "correct":
+            return self.corrects(*fields)
         source, *_ = key = key_of(fields)
         has_place = fields[5] == "" or int(fields[5]) in self.places
         return source in self.sources and has_place and key not in self.keys.values()
@@ -606,6 +593,8 @@ def is_well_formed(verb, fields):
 
 def kinds_of(verb, fields):
     """The kind of each field."""
+    if verb == "correct":
+        return KINDS[verb] + OF_FIELD.get(plain(fields[1])[0], "T")
     return KINDS[verb] + (OF_MENTION * mention_count(fields) if verb == "entry" else "")
 
 

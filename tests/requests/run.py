@@ -19,13 +19,15 @@ sys.dont_write_bytecode = True
 import agreement  # noqa: E402
 import stops  # noqa: E402
 import wants  # noqa: E402
-from table import again, entries, entry_rows, failing, many, members, merging, order, reading  # noqa: E402
+from table import again, corrections, entries, entry_rows, failing, many, members, merging, order, reading  # noqa: E402
 from table import steps, stored, worked  # noqa: E402
 from table.making import LAST  # noqa: E402
 
 ROOT = pathlib.Path(__file__).resolve().parents[2]
 PROGRAM = ROOT / "crates/request_rows/out/request_rows"
-PARTS = (worked, reading, entry_rows, order, entries, merging, members, again, failing, many, stored, steps)
+PARTS = (
+    worked, reading, entry_rows, order, entries, merging, members, corrections, again, failing, many, stored, steps
+)
 SCENARIOS = [scenario for part in PARTS for scenario in part.SCENARIOS]
 LIMIT = 50  # seconds for one scenario
 SHOWN = 100  # bytes of a text in a message

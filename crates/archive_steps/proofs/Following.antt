@@ -74,6 +74,10 @@ use Rattle.command_checks.proofs.Likes.{entry_is_found}
 use Rattle.member_changes.specs.Steps.{partner, unchild, unparticipant, unpartner}
 use Rattle.member_changes.proofs.Stepping.{keeps_sound, leaves_all_else}
 use Rattle.record_changes.specs.Laws.{ChangesOnly}
+use Rattle.place_names.specs.Laws.{IsUtf8Given}
+use Rattle.place_names.specs.Steps.{correct}
+use Rattle.place_names.proofs.Leaving.{leaves_all_else as others_stay}
+use Rattle.place_names.proofs.Mending.{keeps_sound as stays_sound}
 use Rattle.merging.specs.Steps.{RowStep, merge_step, undo_step}
 use Rattle.merging.proofs.Drawing.{merge_draws, merge_uses_none, undo_draws, undo_uses_none}
 use Rattle.merging.proofs.Stepping.{merged_by, merged_sound, undone_by, undone_sound}
@@ -370,6 +374,12 @@ changes_follow : (c : Content) (n : ℕ) (step : RowStep) → IfOk step (λ done
 changes_follow c n (Ok done) sound only = (only.receipts, only.draws, only.again, (λ w before. sound before))
 changes_follow c n (Err e) sound only = tt
 
+-- the same of a step that leaves a sound archive sound where its words are as their types keep them
+worded_follows : (W : Type 0) (c : Content) (n : ℕ) (step : RowStep)
+    → (W → IsSound c → IfOk step (λ done. IsSound done.0)) → IfOk step (ChangesOnly c n) → Follows W c step
+worded_follows W c n (Ok done) sound only = (only.receipts, only.draws, only.again, sound)
+worded_follows W c n (Err e) sound only = tt
+
 -- ---- each command
 pub row_follows : (c : Content) (k : RowCommand) → Follows (IsUtf8Row k) c (row_step c k)
 row_follows c (row_command.Person name sex) =
@@ -504,3 +514,6 @@ row_follows c (row_command.Unchild family person) =
 row_follows c (row_command.Unparticipant event place) =
     changes_follow c event (unparticipant c event place) ((keeps_sound c event).3 place)
     ((leaves_all_else c event).3 place)
+row_follows c (row_command.Correct number given) =
+    worded_follows (IsUtf8Given given) c number (correct c number given) (stays_sound c number given)
+    (others_stay c number given)

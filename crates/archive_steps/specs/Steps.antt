@@ -73,6 +73,7 @@ use Rattle.command_checks.specs.Entries.{texts_fit, reason_in, mentions_in, entr
 use Rattle.command_checks.specs.declared.kinds.Demand.TheVariants as demand
 use Rattle.member_changes.specs.Steps.{partner, unchild, unparticipant, unpartner}
 use Rattle.merging.specs.Steps.{RowStep, merge_step, undo_step}
+use Rattle.place_names.specs.Steps.{correct}
 
 -- a new record at the next number, where one is left
 abbrev pub creates : Content → Record → RowStep
@@ -379,3 +380,4 @@ row_step c (row_command.Partner family partnership person) = partner c family pa
 row_step c (row_command.Unpartner family person) = unpartner c family person
 row_step c (row_command.Unchild family person) = unchild c family person
 row_step c (row_command.Unparticipant event place) = unparticipant c event place
+row_step c (row_command.Correct number given) = correct c number given

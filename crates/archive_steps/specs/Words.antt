@@ -8,6 +8,7 @@ use Rattle.commands.specs.declared.entry_row.EntryRow.{EntryRow}
 use Rattle.commands.specs.declared.entry_row.GivenMention.{GivenMention}
 use Rattle.commands.specs.declared.row_command.RowCommand.{RowCommand}
 use Rattle.commands.specs.declared.row_command.RowCommand.TheVariants as row_command
+use Rattle.place_names.specs.Laws.{IsUtf8Given}
 
 -- the spelling of a date is UTF-8, and the date is as its type keeps it
 abbrev pub IsUtf8Date : GivenDate → Type 0
@@ -36,4 +37,5 @@ IsUtf8Row (row_command.Source title author publisher repo call_number) = IsUtf8 
 IsUtf8Row (row_command.Citation owner source page quality) = IsUtf8 page
 IsUtf8Row (row_command.Entry source entry) = IsUtf8Entry entry
 IsUtf8Row (row_command.Link entry mention person reason) = IsUtf8 reason
+IsUtf8Row (row_command.Correct number given) = IsUtf8Given given
 IsUtf8Row _ = Unit {0}

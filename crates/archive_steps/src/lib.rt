@@ -2,7 +2,7 @@
 //! which records it puts.
 //!
 //! It uses `archive_state` for the view of an archive and for what changes, `commands` for the commands, and
-//! `member_changes` and `merging` for some of them.
+//! `member_changes`, `place_names` and `merging` for some of them.
 //!
 //! Callers may rely on: `decide_row` over any view answers the changes that, made, are the step of the definitions, or
 //! its refusal, and changes nothing itself; and the changes are only of what differs.

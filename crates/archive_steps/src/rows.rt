@@ -19,6 +19,7 @@ use commands::RowCommand;
 use member_changes::{partner, unchild, unparticipant, unpartner};
 use merging::decide_merge::merge;
 use merging::decide_undo::undo;
+use place_names::correct;
 use record_text::RefusalKind;
 use std::alloc::Global;
 
@@ -90,5 +91,6 @@ pub fn decide_row<V: View>(
         RowCommand::Unpartner { family, person } => unpartner(alloc, view, *family, *person),
         RowCommand::Unchild { family, person } => unchild(alloc, view, *family, *person),
         RowCommand::Unparticipant { event, place } => unparticipant(alloc, view, *event, *place),
+        RowCommand::Correct { number, given } => correct(alloc, view, *number, given),
     }
 }

@@ -2,9 +2,11 @@
 
 ghost use Rattle.commands.specs.Sound.{WhereSome};
 ghost use Rattle.record_shapes.specs.Lists.{EachOf};
+ghost use Rattle.field_changes.specs.Laws.{IsUtf8Value};
+ghost use Rattle.place_names.specs.Laws.{IsUtf8Given};
 ghost use Rattle.archive_steps.specs.Words.{IsUtf8Date, IsUtf8Entry, IsUtf8Mention, IsUtf8Row};
 
-use commands::{EntryRow, GivenDate, GivenMention, RowCommand};
+use commands::{EntryRow, GivenCorrection, GivenDate, GivenMention, GivenValue, RowCommand};
 
 /// Does nothing: it tells a proof that the words of a row are UTF-8.
 pub fn tell_row(row: &RowCommand)
@@ -53,6 +55,7 @@ pub fn tell_row(row: &RowCommand)
         RowCommand::Link { reason, .. } => {
             let _ = reason.as_str();
         }
+        RowCommand::Correct { given, .. } => tell_correction(given),
         RowCommand::Sex { .. }
         | RowCommand::Family { .. }
         | RowCommand::Child { .. }
@@ -84,6 +87,35 @@ fn tell_mentions(mentions: &[GivenMention])
     if let [first, more @ ..] = mentions {
         let _ = first.name.as_str();
         tell_mentions(more);
+    }
+}
+
+/// The same of a correction.
+fn tell_correction(given: &GivenCorrection)
+    ensures { IsUtf8Given given.now }
+{
+    match given {
+        GivenCorrection::Tag(words) => {
+            let _ = words.as_str();
+        }
+        GivenCorrection::Value(value) => tell_value(value),
+    }
+}
+
+/// The same of the value of a field.
+fn tell_value(value: &GivenValue)
+    ensures { IsUtf8Value value.now }
+{
+    match value {
+        GivenValue::Date(date) => tell_date(date),
+        GivenValue::Text(_, words) => {
+            let _ = words.as_str();
+        }
+        GivenValue::Sex(_)
+        | GivenValue::Place(_)
+        | GivenValue::Repository(_)
+        | GivenValue::Quality(_)
+        | GivenValue::Item(_) => {}
     }
 }
 

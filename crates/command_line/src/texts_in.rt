@@ -45,6 +45,7 @@ Verbs and their fields; one with ? may be empty:
   partner,family,role,person       (the role is husband or wife)
   unpartner,family,person          unchild,family,person
   unparticipant,event,participant
+  correct,number,field,value?      (field: as docs/FORMATS.md has them)
 
 Refusals of a row:
   50 NoSuch              a number or an @ token names nothing
@@ -61,8 +62,9 @@ Refusals of a row:
   61 NoSuchMention       the entry has not so many mentions
   62 NotOfKind           a tag that is not of the owner, a role not of the kind
   63 Full                no number is left
-  64 NoSuchField         the event has not so many participants
+  64 NoSuchField         the record has not the field, or its list is shorter
   65 NotMember           the person is not partner, or not child, there
+  66 StillCarried        a line that is carried would be read as a field
   90 BadRow              a field that is not UTF-8 or not of its type
   91 UnknownVerb         no such verb
   92 FieldCount          another number of fields than the verb has

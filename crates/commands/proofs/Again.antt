@@ -39,13 +39,17 @@ use Rattle.record_fields.specs.declared.words.Sex.{Sex}
 use Rattle.record_fields.specs.declared.words.Sex.TheVariants as sex
 use Rattle.record_fields.proofs.Worded.{entry_kind_back, partnership_back, quality_back, sex_back}
 use Rattle.csv.specs.Writing.{default_writer, row_text}
-use Rattle.commands.specs.Bytes.{entry_fields, or_empty, row_of, spelt}
+use Rattle.corrections.specs.Fields.{field_word}
+use Rattle.corrections.specs.declared.field.Field.{Field}
+use Rattle.commands.specs.Bytes.{entry_fields, given_field, given_words, or_empty, row_of, spelt}
 use Rattle.commands.specs.Dated.{given_of}
 use Rattle.commands.specs.Given.{GivenDate, Gives}
 use Rattle.commands.specs.Rows.{
   Reads,
   ReadsEntry,
   and_then,
+  field_in,
+  given_in,
   item_in,
   kind_in,
   number_in,
@@ -58,14 +62,18 @@ use Rattle.commands.specs.Rows.{
   read_row,
   sex_in,
 }
-use Rattle.commands.specs.Sound.{IsDate, IsNumber, IsSoundEntry, IsSoundRow, WhereSome}
+use Rattle.commands.specs.Sound.{IsDate, IsNumber, IsSoundEntry, IsSoundGiven, IsSoundRow, WhereSome}
 use Rattle.commands.specs.Verbs.{verb_of, verb_word}
+use Rattle.commands.specs.declared.correction.GivenCorrection.{GivenCorrection}
+use Rattle.commands.specs.declared.correction.GivenCorrection.TheVariants as correction
+use Rattle.commands.specs.declared.correction.GivenValue.TheVariants as of_field
 use Rattle.commands.specs.declared.entry_row.EntryRow.{EntryRow}
 use Rattle.commands.specs.declared.row_command.RowCommand.{RowCommand}
 use Rattle.commands.specs.declared.row_command.RowCommand.TheVariants as row_command
 use Rattle.commands.specs.declared.verb.Verb.{Verb}
 use Rattle.commands.specs.declared.verb.Verb.TheVariants as verb
 use Rattle.commands.proofs.Dated.{gives_of, one_given}
+use Rattle.commands.proofs.FieldWords.{field_back}
 use Rattle.commands.proofs.Items.{item_back}
 use Rattle.commands.proofs.Mentions.{mentions_back}
 use Rattle.commands.proofs.Numbers.{number_back}
@@ -135,6 +143,21 @@ entry-again e h =
       date-again e.date h.0,
     ) refl
 
+-- ---- corrections
+field-again : (f : Field) → field_in (field_word f) ≡ Ok f
+unfolding field_in
+field-again f = ap (ok_or BadRow) (field_back f)
+
+given-again : (g : GivenCorrection) → IsSoundGiven g → given_in given_of (given_field g) (given_words g) ≡ Ok g
+given-again (correction.Tag words) h = refl
+given-again (correction.Value (of_field.Sex s)) h = rw (sex-or-none s) refl
+given-again (correction.Value (of_field.Date d)) h = rw (date-again d h) refl
+given-again (correction.Value (of_field.Place n)) h = rw (number-or-none n h) refl
+given-again (correction.Value (of_field.Repository n)) h = rw (number-or-none n h) refl
+given-again (correction.Value (of_field.Quality q)) h = rw (quality-or-none q) refl
+given-again (correction.Value (of_field.Item i)) h = rw (item-again i) refl
+given-again (correction.Value (of_field.Text f words)) h = refl
+
 -- ---- verbs
 pub verb_back : (v : Verb) → verb_of (verb_word v) ≡ Some v
 unfolding verb_of
@@ -160,6 +183,7 @@ verb_back verb.Partner = refl
 verb_back verb.Unpartner = refl
 verb_back verb.Unchild = refl
 verb_back verb.Unparticipant = refl
+verb_back verb.Correct = refl
 
 by-verb : (v : Verb) (fields : List (List ℕ)) → read_row given_of (verb_word v ∷ fields) ≡ read_fields given_of v fields
 by-verb v fields = rw (verb_back v) refl
@@ -235,6 +259,9 @@ row-again (row_command.Unparticipant event place) h =
       number_back event h.0.0 h.0.1,
       number_back place h.1.0 h.1.1,
     ) refl
+row-again (row_command.Correct number given) h =
+    by-verb verb.Correct (decimal number ∷ field_word (given_field given) ∷ given_words given ∷ [])
+    ∙ rw (number_back number h.0.0 h.0.1, field-again (given_field given), given-again given h.1) refl
 
 pub row_back : (c : RowCommand) → IsSoundRow c → Reads (row_of c) (Ok c)
 row_back c h = is_reading (row_of c) (Ok c) (sym (row-again c h))
@@ -308,6 +335,9 @@ bytes_back (row_command.Unchild family person) rest = read-write-many (verb_word
     (decimal person ∷ []) rest
 bytes_back (row_command.Unparticipant event place) rest =
     read-write-many (verb_word verb.Unparticipant) (decimal event) (decimal place ∷ []) rest
+bytes_back (row_command.Correct number given) rest =
+    read-write-many (verb_word verb.Correct) (decimal number)
+    (field_word (given_field given) ∷ given_words given ∷ []) rest
 
 -- row commands of one row are one
 pub one_row : (c d : RowCommand) → IsSoundRow c → IsSoundRow d → row_of c ≡ row_of d → c ≡ d

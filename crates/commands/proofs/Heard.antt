@@ -30,12 +30,16 @@ use Rattle.record_text.specs.declared.refusal.RefusalKind.{RefusalKind}
 use Rattle.record_text.specs.declared.refusal.RefusalKind.TheVariants.{BadRow, UnknownVerb}
 use Rattle.record_fields.specs.declared.entry_words.EntryKind.{EntryKind}
 use Rattle.record_fields.specs.declared.item.Item.{Item}
+use Rattle.corrections.specs.declared.field.Field.{Field}
+use Rattle.corrections.specs.declared.field.Field.TheVariants as record_field
 use Rattle.commands.specs.Given.{GivenDate, Gives}
 use Rattle.commands.specs.Mentions.{IsCount}
 use Rattle.commands.specs.Rows.{
   Reads,
   ReadsEntry,
   and_then,
+  field_in,
+  given_in,
   is_number,
   item_in,
   kind_in,
@@ -50,8 +54,11 @@ use Rattle.commands.specs.Rows.{
   read_row,
   sex_in,
 }
-use Rattle.commands.specs.Sound.{IsDate, IsNumber, IsSoundEntry, IsSoundRow, WhereSome}
+use Rattle.commands.specs.Sound.{IsDate, IsNumber, IsSoundEntry, IsSoundGiven, IsSoundRow, WhereSome}
 use Rattle.commands.specs.Verbs.{verb_of}
+use Rattle.commands.specs.declared.correction.GivenCorrection.{GivenCorrection}
+use Rattle.commands.specs.declared.correction.GivenCorrection.TheVariants as correction
+use Rattle.commands.specs.declared.correction.GivenValue.TheVariants as of_field
 use Rattle.commands.specs.declared.entry_row.EntryRow.{EntryRow}
 use Rattle.commands.specs.declared.entry_row.GivenMention.{GivenMention}
 use Rattle.commands.specs.declared.row_command.RowCommand.{RowCommand}
@@ -118,6 +125,37 @@ entry-sound given (kind ∷ page ∷ item ∷ date ∷ place ∷ text ∷ fields
     (number-or-none place)
     (λ p number same. subst IsSoundEntry (ok-is (made ms k i p) entry same) (dates date, number, few))))) e
 entry-sound given _ entry dates e = absurd cc
+
+-- ---- corrections
+is-given : (d g : GivenCorrection) → ◌≡◌ {A = Result GivenCorrection RefusalKind} (Ok d) (Ok g) → IsSoundGiven d
+    → IsSoundGiven g
+is-given d g e h = subst IsSoundGiven (ok-is d g e) h
+
+given-sound : (given : List ℕ → Option GivenDate) (f : Field) (words : List ℕ) (g : GivenCorrection)
+    → ((words : List ℕ) → WhereSome IsDate (given words)) → given_in given f words ≡ Ok g → IsSoundGiven g
+given-sound given record_field.Tag words g dates e = is-given (correction.Tag words) g e tt
+given-sound given record_field.Sex words g dates e =
+    then-is (or_none sex_in words) (λ s. Unit {0}) (λ s. Ok (correction.Value (of_field.Sex s))) IsSoundGiven g
+    (λ s h. tt)
+    (λ s h same. is-given (correction.Value (of_field.Sex s)) g same tt) e
+given-sound given record_field.Date words g dates e =
+    is-given (correction.Value (of_field.Date (given words))) g e (dates words)
+given-sound given record_field.Place words g dates e =
+    then-is (or_none number_in words) (WhereSome IsNumber) (λ n. Ok (correction.Value (of_field.Place n)))
+    IsSoundGiven g (number-or-none words)
+    (λ n h same. is-given (correction.Value (of_field.Place n)) g same h) e
+given-sound given record_field.Repository words g dates e =
+    then-is (or_none number_in words) (WhereSome IsNumber) (λ n. Ok (correction.Value (of_field.Repository n)))
+    IsSoundGiven g (number-or-none words)
+    (λ n h same. is-given (correction.Value (of_field.Repository n)) g same h) e
+given-sound given record_field.Quality words g dates e =
+    then-is (or_none quality_in words) (λ q. Unit {0}) (λ q. Ok (correction.Value (of_field.Quality q))) IsSoundGiven g
+    (λ q h. tt)
+    (λ q h same. is-given (correction.Value (of_field.Quality q)) g same tt) e
+given-sound given record_field.Item words g dates e =
+    then-is (item_in words) (λ i. Unit {0}) (λ i. Ok (correction.Value (of_field.Item i))) IsSoundGiven g (λ i h. tt)
+    (λ i h same. is-given (correction.Value (of_field.Item i)) g same tt) e
+given-sound given (record_field.Text f) words g dates e = is-given (correction.Value (of_field.Text f words)) g e tt
 
 -- ---- rows
 then-sound : {A : Type 0} (r : Result A RefusalKind) (P : A → Type 0) (f : A → Result RowCommand RefusalKind)
@@ -241,6 +279,15 @@ fields-sound given verb.Unparticipant (event ∷ place ∷ []) c dates e =
     (number-in event)
     (λ n x. then-sound (number_in place) IsNumber (λ k. Ok (row_command.Unparticipant n k)) c (number-in place)
     (λ k y same. is-that (row_command.Unparticipant n k) c same (x, y))) e
+fields-sound given verb.Correct (number ∷ word ∷ words ∷ []) c dates e =
+    then-sound (number_in number) IsNumber
+    (λ n. and_then (field_in word) (λ f. and_then (given_in given f words) (λ g. Ok (row_command.Correct n g)))) c
+    (number-in number)
+    (λ n x. then-sound (field_in word) (λ f. Unit {0})
+    (λ f. and_then (given_in given f words) (λ g. Ok (row_command.Correct n g))) c (λ f i. tt)
+    (λ f i. then-sound (given_in given f words) IsSoundGiven (λ g. Ok (row_command.Correct n g)) c
+    (λ g. given-sound given f words g dates)
+    (λ g y same. is-that (row_command.Correct n g) c same (x, y)))) e
 fields-sound given _ _ c dates e = absurd cc
 
 row-sound : (given : List ℕ → Option GivenDate) (row : List (List ℕ)) (c : RowCommand)

@@ -3,6 +3,7 @@ pub mod Forests
 pub mod Chains
 pub mod Dated
 pub mod Feeding
+pub mod FieldWords
 pub mod Heard
 pub mod Items
 pub mod Mentions

@@ -40,3 +40,8 @@ pub entry_read : (row : List (List ℕ)) (r : Result EntryRow RefusalKind) → D
     → Decided r (ReadsEntry row)
 entry_read row (Ok entry) h = is_entry row (Ok entry) h
 entry_read row (Err k) h = λ w. is_entry row (Err k) (h w)
+
+-- ---- what is answered without memory
+pub decided_is : {A : Type 0} (r x : Result A RefusalKind) → r ≡ x → Decided r (λ q. q ≡ x)
+decided_is (Ok a) x e = e
+decided_is (Err k) x e = λ w. e

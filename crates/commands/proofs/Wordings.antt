@@ -243,6 +243,7 @@ row-begins (row_command.Partner family partnership person) = (verb.Partner, refl
 row-begins (row_command.Unpartner family person) = (verb.Unpartner, refl)
 row-begins (row_command.Unchild family person) = (verb.Unchild, refl)
 row-begins (row_command.Unparticipant event place) = (verb.Unparticipant, refl)
+row-begins (row_command.Correct number given) = (verb.Correct, refl)
 
 some-fields : (rows : List EntryRow) → HaveFields (map entry_fields rows)
 some-fields [] = tt

@@ -6,8 +6,15 @@ use Rattle.csv.specs.Writing.{default_writer, row_text}
 use Rattle.sha2.specs.Sha256.{sha256}
 use Rattle.record_fields.specs.Words.{entry_kind_word, partnership_word, quality_word, sex_word}
 use Rattle.gedcom_tree.specs.Text.{text}
+use Rattle.corrections.specs.Fields.{field_word}
+use Rattle.corrections.specs.declared.field.Field.{Field}
+use Rattle.corrections.specs.declared.field.Field.TheVariants as record_field
 use Rattle.commands.specs.Given.{GivenDate}
 use Rattle.commands.specs.Verbs.{verb_word}
+use Rattle.commands.specs.declared.correction.GivenCorrection.{GivenCorrection}
+use Rattle.commands.specs.declared.correction.GivenCorrection.TheVariants as correction
+use Rattle.commands.specs.declared.correction.GivenValue.{GivenValue}
+use Rattle.commands.specs.declared.correction.GivenValue.TheVariants as of_field
 use Rattle.commands.specs.declared.entry_row.GivenMention.{GivenMention}
 use Rattle.commands.specs.declared.entry_row.EntryRow.{EntryRow}
 use Rattle.commands.specs.declared.command.Command.{Command}
@@ -34,6 +41,34 @@ entry_fields e =
     entry_kind_word e.kind ∷ e.page ∷ decimal e.item.number ∷ or_empty spelt e.date ∷ or_empty decimal e.place ∷ e.text
     ∷ mention_fields e.mentions
 
+-- ---- corrections: the field, and the words of its value
+abbrev pub value_field : GivenValue → Field
+value_field (of_field.Sex s) = record_field.Sex
+value_field (of_field.Date d) = record_field.Date
+value_field (of_field.Place n) = record_field.Place
+value_field (of_field.Repository n) = record_field.Repository
+value_field (of_field.Quality q) = record_field.Quality
+value_field (of_field.Item i) = record_field.Item
+value_field (of_field.Text f words) = record_field.Text f
+
+abbrev pub given_field : GivenCorrection → Field
+given_field (correction.Tag words) = record_field.Tag
+given_field (correction.Value v) = value_field v
+
+abbrev pub value_words : GivenValue → List ℕ
+value_words (of_field.Sex s) = or_empty sex_word s
+value_words (of_field.Date d) = or_empty spelt d
+value_words (of_field.Place n) = or_empty decimal n
+value_words (of_field.Repository n) = or_empty decimal n
+value_words (of_field.Quality q) = or_empty quality_word q
+value_words (of_field.Item i) = decimal i.number
+value_words (of_field.Text f words) = words
+
+abbrev pub given_words : GivenCorrection → List ℕ
+given_words (correction.Tag words) = words
+given_words (correction.Value v) = value_words v
+
+-- ---- rows
 -- the verb and the fields, in the order of a row
 abbrev pub row_of : RowCommand → List (List ℕ)
 row_of (row_command.Person name sex) = verb_word verb.Person ∷ name ∷ or_empty sex_word sex ∷ []
@@ -66,6 +101,8 @@ row_of (row_command.Partner family partnership person) =
 row_of (row_command.Unpartner family person) = verb_word verb.Unpartner ∷ decimal family ∷ decimal person ∷ []
 row_of (row_command.Unchild family person) = verb_word verb.Unchild ∷ decimal family ∷ decimal person ∷ []
 row_of (row_command.Unparticipant event place) = verb_word verb.Unparticipant ∷ decimal event ∷ decimal place ∷ []
+row_of (row_command.Correct number given) =
+    verb_word verb.Correct ∷ decimal number ∷ field_word (given_field given) ∷ given_words given ∷ []
 
 -- ---- bytes
 -- what the bytes of a command are written from: the fields of one row; the source of a batch of entries and the fields

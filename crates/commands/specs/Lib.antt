@@ -1,5 +1,6 @@
 pub mod Bytes
 pub mod Dated
+pub mod FieldWords
 pub mod Fields
 pub mod Given
 pub mod Items

@@ -31,10 +31,16 @@ use Rattle.record_fields.specs.declared.item.Item.{Item}
 use Rattle.record_fields.specs.declared.words.Partnership.{Partnership}
 use Rattle.record_fields.specs.declared.words.Quality.{Quality}
 use Rattle.record_fields.specs.declared.words.Sex.{Sex}
+use Rattle.corrections.specs.declared.field.Field.{Field}
+use Rattle.corrections.specs.declared.field.Field.TheVariants as record_field
+use Rattle.commands.specs.FieldWords.{field_of}
 use Rattle.commands.specs.Given.{GivenDate, Gives}
 use Rattle.commands.specs.Items.{item_at}
 use Rattle.commands.specs.Mentions.{is_count}
 use Rattle.commands.specs.Verbs.{verb_of}
+use Rattle.commands.specs.declared.correction.GivenCorrection.{GivenCorrection}
+use Rattle.commands.specs.declared.correction.GivenCorrection.TheVariants as correction
+use Rattle.commands.specs.declared.correction.GivenValue.TheVariants as of_field
 use Rattle.commands.specs.declared.entry_row.EntryRow.{EntryRow}
 use Rattle.commands.specs.declared.entry_row.GivenMention.{GivenMention}
 use Rattle.commands.specs.declared.row_command.RowCommand.{RowCommand}
@@ -86,6 +92,25 @@ item_in field = and_then (number_in field) (λ n. ok_or BadRow (item_at n))
 abbrev pub or_none : {A : Type 0} → (List ℕ → Result A RefusalKind) → List ℕ → Result (Option A) RefusalKind
 or_none read [] = Ok None
 or_none read (b ∷ more) = and_then (read (b ∷ more)) (λ a. Ok (Some a))
+
+-- ---- corrections
+-- the field of its word
+unfoldable pub field_in : List ℕ → Result Field RefusalKind
+field_in word = ok_or BadRow (field_of word)
+
+-- the value, as the field has it; an empty one of these takes the field away, but an item is no empty one
+abbrev pub given_in : (List ℕ → Option GivenDate) → Field → List ℕ → Result GivenCorrection RefusalKind
+given_in given record_field.Tag words = Ok (correction.Tag words)
+given_in given record_field.Sex words = and_then (or_none sex_in words) (λ s. Ok (correction.Value (of_field.Sex s)))
+given_in given record_field.Date words = Ok (correction.Value (of_field.Date (given words)))
+given_in given record_field.Place words =
+    and_then (or_none number_in words) (λ n. Ok (correction.Value (of_field.Place n)))
+given_in given record_field.Repository words =
+    and_then (or_none number_in words) (λ n. Ok (correction.Value (of_field.Repository n)))
+given_in given record_field.Quality words =
+    and_then (or_none quality_in words) (λ q. Ok (correction.Value (of_field.Quality q)))
+given_in given record_field.Item words = and_then (item_in words) (λ i. Ok (correction.Value (of_field.Item i)))
+given_in given (record_field.Text f) words = Ok (correction.Value (of_field.Text f words))
 
 -- ---- mentions
 -- a role and a name for each
@@ -159,6 +184,9 @@ read_fields given verb.Unchild (family ∷ person ∷ []) =
     and_then (number_in family) (λ f. and_then (number_in person) (λ p. Ok (row_command.Unchild f p)))
 read_fields given verb.Unparticipant (event ∷ place ∷ []) =
     and_then (number_in event) (λ e. and_then (number_in place) (λ k. Ok (row_command.Unparticipant e k)))
+read_fields given verb.Correct (number ∷ word ∷ words ∷ []) =
+    and_then (number_in number) (λ n. and_then (field_in word) (λ f. and_then (given_in given f words) (λ g.
+    Ok (row_command.Correct n g))))
 read_fields given _ _ = Err FieldCount
 
 -- the verb first

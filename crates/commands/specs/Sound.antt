@@ -6,6 +6,10 @@ use Rattle.commands.specs.Bytes.{Wording, Row, Batch, Import}
 use Rattle.commands.specs.Given.{GivenDate, IsGiven}
 use Rattle.commands.specs.Mentions.{IsCount}
 use Rattle.commands.specs.Verbs.{verb_word}
+use Rattle.commands.specs.declared.correction.GivenCorrection.{GivenCorrection}
+use Rattle.commands.specs.declared.correction.GivenCorrection.TheVariants as correction
+use Rattle.commands.specs.declared.correction.GivenValue.{GivenValue}
+use Rattle.commands.specs.declared.correction.GivenValue.TheVariants as of_field
 use Rattle.commands.specs.declared.entry_row.EntryRow.{EntryRow}
 use Rattle.commands.specs.declared.command.Command.{Command}
 use Rattle.commands.specs.declared.command.Command.TheVariants as command
@@ -29,6 +33,17 @@ WhereSome P (Some a) = P a
 -- the same of a register entry as a row gives it: it has 1 to 100 mentions
 abbrev pub IsSoundEntry : EntryRow → Type 0
 IsSoundEntry e = WhereSome IsDate e.date × WhereSome IsNumber e.place × IsCount e.mentions
+
+-- the same of a correction
+abbrev pub IsSoundValue : GivenValue → Type 0
+IsSoundValue (of_field.Date d) = WhereSome IsDate d
+IsSoundValue (of_field.Place n) = WhereSome IsNumber n
+IsSoundValue (of_field.Repository n) = WhereSome IsNumber n
+IsSoundValue _ = Unit {0}
+
+abbrev pub IsSoundGiven : GivenCorrection → Type 0
+IsSoundGiven (correction.Tag words) = Unit {0}
+IsSoundGiven (correction.Value v) = IsSoundValue v
 
 -- the numbers of a row are in range, and its dates as their type keeps them
 abbrev pub IsSoundRow : RowCommand → Type 0
@@ -56,6 +71,7 @@ IsSoundRow (row_command.Partner family partnership person) = IsNumber family × 
 IsSoundRow (row_command.Unpartner family person) = IsNumber family × IsNumber person
 IsSoundRow (row_command.Unchild family person) = IsNumber family × IsNumber person
 IsSoundRow (row_command.Unparticipant event place) = IsNumber event × IsNumber place
+IsSoundRow (row_command.Correct number given) = IsNumber number × IsSoundGiven given
 
 -- the same of any command: of a batch of entries, of its source and of each row; the nodes of an import are a forest
 abbrev pub IsSound : Command → Type 0

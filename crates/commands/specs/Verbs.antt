@@ -27,13 +27,14 @@ verb_word verb.Partner = codes "partner"
 verb_word verb.Unpartner = codes "unpartner"
 verb_word verb.Unchild = codes "unchild"
 verb_word verb.Unparticipant = codes "unparticipant"
+verb_word verb.Correct = codes "correct"
 
 abbrev pub verbs : List Verb
 verbs =
     verb.Person ∷ verb.Name ∷ verb.Sex ∷ verb.Family ∷ verb.Child ∷ verb.Event ∷ verb.Amend ∷ verb.Participant
     ∷ verb.Place ∷ verb.Repo ∷ verb.Source ∷ verb.Citation
     ∷ verb.Entry ∷ verb.Link ∷ verb.Unlink ∷ verb.Merge ∷ verb.Undo ∷ verb.Remove
-    ∷ verb.Partner ∷ verb.Unpartner ∷ verb.Unchild ∷ verb.Unparticipant ∷ []
+    ∷ verb.Partner ∷ verb.Unpartner ∷ verb.Unchild ∷ verb.Unparticipant ∷ verb.Correct ∷ []
 
 -- the verb of a word
 unfoldable pub verb_of : List ℕ → Option Verb

@@ -7,6 +7,7 @@ ghost use Rattle.commands.specs.declared.command.Command.TheVariants as command;
 ghost use Rattle.commands.specs.declared.row_command.RowCommand.TheVariants as row_command;
 
 use crate::command::Command;
+use crate::correction_bytes::correct_bytes;
 use crate::entry_bytes::{entries_bytes, entry_bytes};
 use crate::field::Field;
 use crate::forest_bytes::{forest_bytes, forest_digest};
@@ -114,6 +115,7 @@ fn row_command_bytes(alloc: Global, row: &RowCommand) -> Result<Vec<u8>, AllocEr
         RowCommand::Unparticipant { event, place } => {
             two_numbers(alloc, Verb::Unparticipant, *event, *place)
         }
+        RowCommand::Correct { number, given } => correct_bytes(alloc, *number, given),
     }
 }
 
@@ -335,7 +337,7 @@ pub(crate) fn number_or_empty(alloc: Global, number: Option<u32>) -> Result<Stri
 }
 
 /// The letter of a sex, or nothing.
-fn letter_or_empty<'a>(sex: Option<Sex>) -> &'a str
+pub(crate) fn letter_or_empty<'a>(sex: Option<Sex>) -> &'a str
     ensures { result.now ≡ or_empty sex_word sex }
 {
     match sex {
@@ -345,7 +347,7 @@ fn letter_or_empty<'a>(sex: Option<Sex>) -> &'a str
 }
 
 /// The digit of a quality, or nothing.
-fn digit_or_empty<'a>(quality: Option<Quality>) -> &'a str
+pub(crate) fn digit_or_empty<'a>(quality: Option<Quality>) -> &'a str
     ensures { result.now ≡ or_empty quality_word quality }
 {
     match quality {

@@ -94,7 +94,7 @@ fn kind_in(field: &str) -> Result<EntryKind, RefusalKind>
 
 /// The item of a field.
 #[tactic(auto, unfolding(crate::specs::Rows::item_in))]
-fn item_in(field: &str) -> Result<Item, RefusalKind>
+pub(crate) fn item_in(field: &str) -> Result<Item, RefusalKind>
     ensures { result ≡ item_in field.now }
 {
     let number = number_in(field)?;

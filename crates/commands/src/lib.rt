@@ -2,7 +2,8 @@
 //! kept under the request's token. This is the one home of the verbs and of the order of their fields.
 //!
 //! It uses `record_text` and `record_fields` for texts and dates, `gedcom_date` for the spelling of dates,
-//! and `csv` and `sha2` of the kit. What a command does to an archive is for `archive_core` to say.
+//! `corrections` for the words of the fields that a correction names, and `csv` and `sha2` of the kit. What a command
+//! does to an archive is for `archive_core` to say.
 //!
 //! Callers may rely on: a row is read as one command, or refused for one reason, and the row of a command is read as
 //! that command; the bytes of a command are its verb and its fields as one row of CSV, and its digest is their
@@ -12,6 +13,9 @@
 
 mod batch;
 mod command;
+mod correction;
+mod correction_bytes;
+mod correction_reading;
 mod digest;
 mod entry_bytes;
 mod entry_reading;
@@ -29,6 +33,7 @@ mod verb;
 
 pub use batch::{batch_bytes, import_bytes};
 pub use command::Command;
+pub use correction::{GivenCorrection, GivenValue};
 pub use digest::{command_bytes, command_digest};
 pub use entry_row::{EntryRow, EntryRows, GivenMention, GivenMentions};
 pub use field::{Field, FieldRow};

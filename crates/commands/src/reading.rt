@@ -7,6 +7,7 @@ ghost use Rattle.commands.specs.Dated.{given_of};
 ghost use Rattle.commands.specs.Rows.{Decided, Reads, number_in, or_none, quality_in, read_fields, sex_in};
 ghost use Rattle.commands.specs.declared.verb.Verb.TheVariants as verb;
 
+use crate::correction_reading::correct;
 use crate::entry_reading::entry_of_fields;
 use crate::field::Field;
 use crate::given::GivenDate;
@@ -66,6 +67,7 @@ fn of_fields(alloc: Global, verb: Verb, fields: &[&str]) -> Result<RowCommand, R
         (Verb::Unpartner, [family, person]) => unpartner(family, person),
         (Verb::Unchild, [family, person]) => unchild(family, person),
         (Verb::Unparticipant, [event, place]) => unparticipant(event, place),
+        (Verb::Correct, [number, field, value]) => correct(alloc, number, field, value),
         // An arm of their own: `auto` follows no more than sixteen ways into one.
         (Verb::Place | Verb::Repo | Verb::Source | Verb::Citation, _) => Err(
             RefusalKind::FieldCount,
@@ -75,6 +77,7 @@ fn of_fields(alloc: Global, verb: Verb, fields: &[&str]) -> Result<RowCommand, R
         (Verb::Partner | Verb::Unpartner | Verb::Unchild | Verb::Unparticipant, _) => Err(
             RefusalKind::FieldCount,
         ),
+        (Verb::Correct, _) => Err(RefusalKind::FieldCount),
         _ => Err(RefusalKind::FieldCount),
     }
 }
@@ -348,7 +351,7 @@ fn sex_in(field: &str) -> Result<Sex, RefusalKind>
 }
 
 /// The sex of a letter, or none where the field is empty.
-fn sex_or_none(field: &str) -> Result<Option<Sex>, RefusalKind>
+pub(crate) fn sex_or_none(field: &str) -> Result<Option<Sex>, RefusalKind>
     ensures { result ≡ or_none sex_in field.now }
 {
     if field.is_empty() {
@@ -368,7 +371,7 @@ fn quality_in(field: &str) -> Result<Quality, RefusalKind>
 }
 
 /// The quality of a digit, or none where the field is empty.
-fn quality_or_none(field: &str) -> Result<Option<Quality>, RefusalKind>
+pub(crate) fn quality_or_none(field: &str) -> Result<Option<Quality>, RefusalKind>
     ensures { result ≡ or_none quality_in field.now }
 {
     if field.is_empty() {

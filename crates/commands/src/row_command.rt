@@ -1,5 +1,6 @@
 //! The commands of one row.
 
+use crate::correction::GivenCorrection;
 use crate::entry_row::EntryRow;
 use crate::field::Field;
 use crate::given::GivenDate;
@@ -128,5 +129,10 @@ pub enum RowCommand {
     Unparticipant {
         event: u32,
         place: u32,
+    },
+    /// A field of a record gets another value, or is taken away.
+    Correct {
+        number: u32,
+        given: GivenCorrection,
     },
 }

@@ -50,6 +50,8 @@ pub enum Verb {
     Unchild,
     /// A participant is removed from an event.
     Unparticipant,
+    /// A field of a record gets another value.
+    Correct,
 }
 
 impl Verb {
@@ -80,6 +82,7 @@ impl Verb {
             Verb::Unpartner => "unpartner",
             Verb::Unchild => "unchild",
             Verb::Unparticipant => "unparticipant",
+            Verb::Correct => "correct",
         }
     }
 
@@ -111,6 +114,7 @@ impl Verb {
             "unpartner" => Some(Verb::Unpartner),
             "unchild" => Some(Verb::Unchild),
             "unparticipant" => Some(Verb::Unparticipant),
+            "correct" => Some(Verb::Correct),
             _ => None,
         }
     }

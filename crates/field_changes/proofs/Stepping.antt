@@ -90,8 +90,8 @@ use Rattle.field_changes.specs.Steps.{
   record_there,
   said,
 }
-use Rattle.field_changes.specs.declared.given.GivenValue.{GivenValue}
-use Rattle.field_changes.specs.declared.given.GivenValue.TheVariants as given
+use Rattle.commands.specs.declared.correction.GivenValue.{GivenValue}
+use Rattle.commands.specs.declared.correction.GivenValue.TheVariants as given
 use Rattle.field_changes.proofs.Entries.{
   entry_date_fits,
   entry_page_fits,

@@ -10,8 +10,8 @@ use Rattle.commands.specs.Sound.{IsDate, WhereSome}
 use Rattle.record_changes.specs.Laws.{ChangesOnly}
 use Rattle.record_changes.specs.Steps.{replaced}
 use Rattle.field_changes.specs.Steps.{changed, retagged}
-use Rattle.field_changes.specs.declared.given.GivenValue.{GivenValue}
-use Rattle.field_changes.specs.declared.given.GivenValue.TheVariants as given
+use Rattle.commands.specs.declared.correction.GivenValue.{GivenValue}
+use Rattle.commands.specs.declared.correction.GivenValue.TheVariants as given
 
 -- what the type of a value keeps of its words, from what a `String` can hold
 abbrev pub IsUtf8Date : GivenDate → Type 0

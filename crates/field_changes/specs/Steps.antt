@@ -16,8 +16,8 @@ use Rattle.corrections.specs.Corrections.{corrected}
 use Rattle.corrections.specs.declared.correction.Correction.{Correction}
 use Rattle.corrections.specs.declared.correction.Correction.TheVariants as correction
 use Rattle.field_changes.specs.Carrying.{still_carried}
-use Rattle.field_changes.specs.declared.given.GivenValue.{GivenValue}
-use Rattle.field_changes.specs.declared.given.GivenValue.TheVariants as given
+use Rattle.commands.specs.declared.correction.GivenValue.{GivenValue}
+use Rattle.commands.specs.declared.correction.GivenValue.TheVariants as given
 
 -- ---- what is given
 -- the correction, where its words are texts

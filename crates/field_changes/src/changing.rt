@@ -11,9 +11,10 @@ ghost use Rattle.record_changes.specs.Steps.{replaced};
 ghost use Rattle.field_changes.specs.Steps as steps;
 
 use crate::carrying::is_still_carried;
-use crate::given::{GivenValue, check_named, check_said, correction_in};
+use crate::given::{check_named, check_said, correction_in};
 use crate::keys::check_changed_key;
 use archive_state::{Changes, View};
+use commands::GivenValue;
 use corrections::{Correction, corrected};
 use record_changes::{kept_if, replaces, unchanged};
 use record_kinds::Record;

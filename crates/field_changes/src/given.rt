@@ -1,4 +1,4 @@
-//! What a request gives of a correction.
+//! The correction that a request gives.
 
 ghost use Rattle.std.specs.Prelude.{◌≡◌, IfErr, false};
 ghost use Rattle.archive_state.specs.Looks.{Agrees, CountsFailures, is_failure, is_stop};
@@ -7,31 +7,10 @@ ghost use Rattle.field_changes.specs.Steps as steps;
 
 use archive_state::View;
 use command_checks::{Demand, check_optional, check_place, date_in, text_in};
-use commands::{Field, GivenDate};
-use corrections::{Correction, TextField};
-use record_fields::{Item, Quality, Sex};
+use commands::GivenValue;
+use corrections::Correction;
 use record_text::RefusalKind;
 use std::alloc::Global;
-
-/// A correction as a request gives it: its words may be no texts of the archive.
-#[derive(Drop)]
-pub enum GivenCorrection {
-    /// The tag of an event.
-    Tag(Field),
-    Value(GivenValue),
-}
-
-/// The value of a field other than the tag of an event.
-#[derive(Drop)]
-pub enum GivenValue {
-    Sex(Option<Sex>),
-    Date(Option<GivenDate>),
-    Place(Option<u32>),
-    Repository(Option<u32>),
-    Quality(Option<Quality>),
-    Item(Item),
-    Text(TextField, Field),
-}
 
 /// The correction that is given (58: its words are no text).
 pub(crate) fn correction_in(alloc: Global, value: &GivenValue) -> Result<Correction, RefusalKind>

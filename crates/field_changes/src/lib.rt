@@ -16,5 +16,4 @@ pub mod laws;
 mod tags;
 
 pub use changing::{changed_record, put_changed};
-pub use given::{GivenCorrection, GivenValue};
 pub use tags::correct_tag;

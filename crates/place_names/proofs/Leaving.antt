@@ -6,8 +6,8 @@ use Rattle.archive_state.specs.Content.{Content}
 use Rattle.commands.specs.Rows.{and_then}
 use Rattle.record_changes.specs.Laws.{ChangesOnly}
 use Rattle.record_changes.specs.Steps.{replaced}
-use Rattle.field_changes.specs.declared.given.GivenCorrection.{GivenCorrection}
-use Rattle.field_changes.specs.declared.given.GivenCorrection.TheVariants as given
+use Rattle.commands.specs.declared.correction.GivenCorrection.{GivenCorrection}
+use Rattle.commands.specs.declared.correction.GivenCorrection.TheVariants as given
 use Rattle.field_changes.proofs.Retagging.{leaves_all_else_of_tags}
 use Rattle.field_changes.proofs.Stepping.{if_answered, leaves_all_else as else_left, then_ok}
 use Rattle.place_names.specs.Laws.{LeavesAllElse}

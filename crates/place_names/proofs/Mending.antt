@@ -40,10 +40,10 @@ use Rattle.corrections.specs.declared.field.TextField.TheVariants as text_field
 use Rattle.record_changes.specs.Steps.{replaced}
 use Rattle.field_changes.specs.Laws.{IsNoPlace, IsUtf8Value}
 use Rattle.field_changes.specs.Steps.{changed, checked_after, correction_in, named, named_record, record_there}
-use Rattle.field_changes.specs.declared.given.GivenCorrection.{GivenCorrection}
-use Rattle.field_changes.specs.declared.given.GivenCorrection.TheVariants as given
-use Rattle.field_changes.specs.declared.given.GivenValue.{GivenValue}
-use Rattle.field_changes.specs.declared.given.GivenValue.TheVariants as given_value
+use Rattle.commands.specs.declared.correction.GivenCorrection.{GivenCorrection}
+use Rattle.commands.specs.declared.correction.GivenCorrection.TheVariants as given
+use Rattle.commands.specs.declared.correction.GivenValue.{GivenValue}
+use Rattle.commands.specs.declared.correction.GivenValue.TheVariants as given_value
 use Rattle.field_changes.proofs.Retagging.{keeps_sound_tags}
 use Rattle.field_changes.proofs.Stepping.{if_answered, keeps_sound as field_keeps_sound, then_ok, there_ok}
 use Rattle.field_changes.proofs.Wording.{text_found}

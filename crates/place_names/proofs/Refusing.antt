@@ -64,8 +64,8 @@ use Rattle.command_checks.specs.Checks.{need, text_in as text_taken}
 use Rattle.command_checks.specs.Fits.{new_path}
 use Rattle.record_changes.specs.Steps.{replaced}
 use Rattle.field_changes.specs.Steps.{record_there, retag, with_tag}
-use Rattle.field_changes.specs.declared.given.GivenCorrection.{GivenCorrection}
-use Rattle.field_changes.specs.declared.given.GivenCorrection.TheVariants as given
+use Rattle.commands.specs.declared.correction.GivenCorrection.{GivenCorrection}
+use Rattle.commands.specs.declared.correction.GivenCorrection.TheVariants as given
 use Rattle.field_changes.proofs.Stepping.{then_ok}
 use Rattle.place_names.specs.Laws.{IsReadAlike, RefusesOnlyIfRead}
 use Rattle.place_names.specs.Naming.{

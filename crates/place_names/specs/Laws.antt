@@ -8,8 +8,8 @@ use Rattle.archive_state.specs.Content.{Content, Records}
 use Rattle.archive_state.specs.Known.{known_before, known_of}
 use Rattle.archive_state.specs.Sound.{EachIn, HasOwnShape, IsSound}
 use Rattle.field_changes.specs.Laws.{IsUtf8Value}
-use Rattle.field_changes.specs.declared.given.GivenCorrection.{GivenCorrection}
-use Rattle.field_changes.specs.declared.given.GivenCorrection.TheVariants as given
+use Rattle.commands.specs.declared.correction.GivenCorrection.{GivenCorrection}
+use Rattle.commands.specs.declared.correction.GivenCorrection.TheVariants as given
 use Rattle.record_changes.specs.Laws.{ChangesOnly}
 use Rattle.record_changes.specs.Steps.{replaced}
 use Rattle.place_names.specs.Steps.{correct, corrected_record}

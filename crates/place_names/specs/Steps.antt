@@ -12,8 +12,8 @@ use Rattle.command_checks.specs.Checks.{need}
 use Rattle.command_checks.specs.Fits.{new_path}
 use Rattle.record_changes.specs.Steps.{Step, replaced}
 use Rattle.field_changes.specs.Steps.{changed, retagged}
-use Rattle.field_changes.specs.declared.given.GivenCorrection.{GivenCorrection}
-use Rattle.field_changes.specs.declared.given.GivenCorrection.TheVariants as given
+use Rattle.commands.specs.declared.correction.GivenCorrection.{GivenCorrection}
+use Rattle.commands.specs.declared.correction.GivenCorrection.TheVariants as given
 use Rattle.place_names.specs.Naming.{all_may, is_read_anew}
 
 -- ---- a place of another name

@@ -129,6 +129,7 @@ module _ (given : List ℕ → Option GivenDate) where
   no_fields verb.Unpartner a b c d e f more many = refl
   no_fields verb.Unchild a b c d e f more many = refl
   no_fields verb.Unparticipant a b c d e f more many = refl
+  no_fields verb.Correct a b c d e f more many = refl
 
   too_many : (v : Verb) (fields : List (List ℕ)) → 207 < length fields → read_fields given v fields ≡ Err FieldCount
   too_many v [] many = absurd (omega (arith, many))

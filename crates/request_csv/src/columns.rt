@@ -19,6 +19,10 @@ pub(crate) enum Use {
     Item,
     Text,
     Date,
+    /// The word of a field of a record.
+    Field,
+    /// What that field has: the word says which of these.
+    Value,
 }
 
 /// A field of a verb.
@@ -44,6 +48,7 @@ pub(crate) fn column_at(verb: Verb, at: usize) -> Option<Column> {
         Verb::Link | Verb::Unlink => of_link(verb, at),
         Verb::Undo => first(at, "slip"),
         Verb::Remove => first(at, "number"),
+        Verb::Correct => of_correction(at),
     }
 }
 
@@ -51,6 +56,27 @@ fn first(at: usize, name: &'static str) -> Option<Column> {
     match at {
         0 => Some(named(name, Use::Record)),
         _ => None,
+    }
+}
+
+fn of_correction(at: usize) -> Option<Column> {
+    match at {
+        0 => Some(named("number", Use::Record)),
+        1 => Some(named("field", Use::Field)),
+        2 => Some(named("value", Use::Value)),
+        _ => None,
+    }
+}
+
+/// What the value of a correction is, by the word of its field.
+pub(crate) fn use_of(word: &str) -> Use {
+    match word {
+        "sex" => Use::SexOrNone,
+        "quality" => Use::QualityOrNone,
+        "date" => Use::Date,
+        "place" | "repository" => Use::RecordOrNone,
+        "item" => Use::Item,
+        _ => Use::Text,
     }
 }
 
@@ -178,5 +204,6 @@ pub(crate) fn names_of(verb: Verb) -> &'static str {
         Verb::Unpartner => "family, person",
         Verb::Unchild => "family, person",
         Verb::Unparticipant => "event, participant",
+        Verb::Correct => "number, field, value",
     }
 }

@@ -1,10 +1,11 @@
 //! Which field of a row is to blame.
 
-use crate::columns::{Column, MENTIONS, Use, column_at};
+use crate::columns::{Column, MENTIONS, Use, column_at, use_of};
 use crate::finding::{Finding, Place};
+use crate::types::{is_sign, wanted};
 use commands::Verb;
 use csv::ByteRecord;
-use record_fields::{EntryKind, Item, Partnership, Quality, Role, Sex};
+use record_fields::Role;
 
 /// Where the fields after the verb begin.
 const FIELDS: usize = 2;
@@ -36,6 +37,22 @@ fn column_of(verb: Option<Verb>, at: usize) -> Option<Column> {
     match verb {
         Some(verb) if at >= FIELDS => column_at(verb, at - FIELDS),
         _ => None,
+    }
+}
+
+/// The field at a place, from 0, and what it is. `None`: the verb has none there, or it is not UTF-8.
+fn use_at(row: &ByteRecord, verb: Option<Verb>, at: usize) -> Option<(Use, &str)> {
+    match (column_of(verb, at), text_at(row, at)) {
+        (Some(column), Some(text)) => Some((said_use(row, column.what), text)),
+        _ => None,
+    }
+}
+
+/// What a field is; the value of a correction is what the word before it says.
+fn said_use(row: &ByteRecord, what: Use) -> Use {
+    match (what, text_at(row, FIELDS + 1)) {
+        (Use::Value, Some(word)) => use_of(word),
+        _ => what,
     }
 }
 
@@ -81,73 +98,9 @@ pub(crate) fn bad_row(row: &ByteRecord) -> Finding {
 
 /// What is wrong with the type of a field. `None`: nothing.
 fn type_fault(row: &ByteRecord, verb: Option<Verb>, at: usize) -> Option<&'static str> {
-    match (column_of(verb, at), text_at(row, at)) {
-        (Some(column), Some(text)) => wanted(column.what, text),
-        _ => None,
-    }
-}
-
-/// What is wanted of a field that it is not. `None`: it is all that is wanted.
-fn wanted(what: Use, text: &str) -> Option<&'static str> {
-    match what {
-        Use::Record | Use::RecordOrNone if is_sign(text) => token_fault(text),
-        Use::Record | Use::Number if !is_number(text) => Some("no number from 1 to 4294967295"),
-        Use::RecordOrNone if !text.is_empty() && !is_number(text) => Some(
-            "neither empty nor a number from 1 to 4294967295",
-        ),
-        Use::Sex if Sex::from_word(text).is_none() => Some("none of M, F and U"),
-        Use::SexOrNone if !text.is_empty() && Sex::from_word(text).is_none() => Some(
-            "neither empty nor M, F or U",
-        ),
-        Use::Partnership if Partnership::from_word(text).is_none() => Some(
-            "neither husband nor wife",
-        ),
-        Use::QualityOrNone if !text.is_empty() && Quality::from_word(text).is_none() => Some(
-            "neither empty nor 0, 1, 2 or 3",
-        ),
-        Use::Kind if EntryKind::from_word(text).is_none() => Some(
-            "none of BAPTISM, MARRIAGE and BURIAL",
-        ),
-        Use::Item if !is_item(text) => Some("no number from 1 to 999999"),
-        _ => None,
-    }
-}
-
-/// Whether a field begins as a reference does.
-fn is_sign(text: &str) -> bool {
-    text.as_bytes().first() == Some(&b'@')
-}
-
-/// Why a field that begins with `@` is no reference. `None`: it is one.
-fn token_fault(text: &str) -> Option<&'static str> {
-    let printed = text.as_bytes().iter().all(|b| b'!' <= *b && *b <= b'~');
-    if printed && 1 < text.len() && text.len() <= 65 {
-        None
-    } else {
-        Some("no token is after the @")
-    }
-}
-
-/// Whether a field is 1 to 10 digits of value 1 to 4,294,967,295.
-fn is_number(text: &str) -> bool {
-    number_of(text).is_some()
-}
-
-/// Whether a field is such a number of at most 999,999.
-fn is_item(text: &str) -> bool {
-    match number_of(text) {
-        Some(number) => Item::new(number).is_some(),
-        None => false,
-    }
-}
-
-fn number_of(text: &str) -> Option<u32> {
-    if text.len() > 10 || !text.as_bytes().iter().all(|b| b.is_ascii_digit()) {
-        return None;
-    }
-    match text.parse::<u32>() {
-        Ok(number) if number != 0 => Some(number),
-        _ => None,
+    match use_at(row, verb, at) {
+        Some((what, text)) => wanted(what, text),
+        None => None,
     }
 }
 
@@ -209,9 +162,21 @@ pub(crate) fn bad_text(row: &ByteRecord) -> Finding {
         Some(Verb::Event) => no_part(verb, FIELDS + 4),
         Some(Verb::Amend) => no_part(verb, FIELDS + 3),
         Some(Verb::Entry) => no_part(verb, FIELDS + 5),
+        Some(Verb::Correct) => field(row, FIELDS + 2, forbidden_value(row)),
         _ => Finding::Row {
             what: "a field is no text",
         },
+    }
+}
+
+/// Why a correction has no such value. The word of its field says which rule it breaks.
+fn forbidden_value(row: &ByteRecord) -> &'static str {
+    match text_at(row, FIELDS + 1) {
+        Some("name") =>
+            "it is empty or not normal, or with it a path passes the limits or has no part",
+        Some("repository") => "its call number stands",
+        Some("call number") => "there is no repository",
+        _ => "no part of the path of this place has a name",
     }
 }
 
@@ -235,12 +200,9 @@ fn place_fault(row: &ByteRecord, verb: Option<Verb>) -> Finding {
 
 /// Why a field is no text. `None`: it is one, or is none that has to be one. A date may be longer than a text.
 fn text_fault(row: &ByteRecord, verb: Option<Verb>, at: usize) -> Option<&'static str> {
-    match (column_of(verb, at), text_at(row, at)) {
-        (Some(column), Some(text)) => match column.what {
-            Use::Text if text.len() > MOST => Some("it has more than 1048576 bytes"),
-            Use::Text | Use::Date => character_fault(text),
-            _ => None,
-        },
+    match use_at(row, verb, at) {
+        Some((Use::Text, text)) if text.len() > MOST => Some("it has more than 1048576 bytes"),
+        Some((Use::Text | Use::Date, text)) => character_fault(text),
         _ => None,
     }
 }
@@ -298,11 +260,8 @@ pub(crate) fn no_such(row: &ByteRecord) -> Finding {
 }
 
 fn is_record_number(row: &ByteRecord, verb: Option<Verb>, at: usize) -> bool {
-    match (column_of(verb, at), text_at(row, at)) {
-        (Some(column), Some(text)) => match column.what {
-            Use::Record | Use::RecordOrNone => !text.is_empty(),
-            _ => false,
-        },
+    match use_at(row, verb, at) {
+        Some((Use::Record | Use::RecordOrNone, text)) => !text.is_empty(),
         _ => false,
     }
 }
@@ -310,6 +269,13 @@ fn is_record_number(row: &ByteRecord, verb: Option<Verb>, at: usize) -> bool {
 /// 62: the tag of an event, or a role of an entry.
 pub(crate) fn not_of_kind(row: &ByteRecord) -> Finding {
     let verb = verb_of(row);
+    if verb == Some(Verb::Correct) {
+        return field(
+            row,
+            FIELDS + 2,
+            "it is no tag of the owner, or no role of the entry's kind",
+        );
+    }
     if verb != Some(Verb::Entry) {
         return Finding::Field {
             at: place(verb, FIELDS + 1),
@@ -343,6 +309,15 @@ pub(crate) fn already_in_family(row: &ByteRecord) -> Finding {
         _ => FIELDS + 1,
     };
     field(row, at, "the family has this person already")
+}
+
+/// 64: the field of a correction, or the participant.
+pub(crate) fn no_such_field(row: &ByteRecord) -> Finding {
+    let what = match verb_of(row) {
+        Some(Verb::Correct) => "the record has no such field, or not so many",
+        _ => "the event has not so many participants",
+    };
+    field(row, FIELDS + 1, what)
 }
 
 /// 65: the person.

@@ -2,8 +2,8 @@
 //!
 //! - `batch_rows`, `fields`, `laws`, `reading`: the rows of a batch of register entries, read as CSV, and their entries
 //!   with the numbers that an archive has for their references.
-//! - `columns`, `finding`, `forms`, `line`, `sentences`: what is wrong with a row that was refused, as one line for who
-//!   wrote it.
+//! - `columns`, `finding`, `forms`, `line`, `sentences`, `types`: what is wrong with a row that was refused, as one
+//!   line for who wrote it.
 //!
 //! Callers may rely on:
 //! - the entries are those of all rows, in their order, or the first row that is none is named with the reason; the
@@ -21,6 +21,7 @@ pub mod laws;
 mod line;
 mod reading;
 mod sentences;
+mod types;
 
 pub use batch_rows::{BatchRow, BatchRows};
 pub use fields::text_fields;

@@ -3,7 +3,7 @@
 use crate::finding::Finding;
 use crate::forms::{
     already_in_family, bad_number, bad_row, bad_text, bad_token, field, field_count, fields,
-    no_such, not_member, not_of_kind, unknown_verb,
+    no_such, no_such_field, not_member, not_of_kind, unknown_verb,
 };
 use csv::ByteRecord;
 use record_text::RefusalKind;
@@ -46,7 +46,12 @@ fn of_request(kind: RefusalKind, row: &ByteRecord) -> Finding {
             what: "there is an entry of the same source, kind, page and item",
         },
         RefusalKind::NoSuchMention => field(row, 3, "the entry has not so many mentions"),
-        RefusalKind::NoSuchField => field(row, 3, "the event has not so many participants"),
+        RefusalKind::NoSuchField => no_such_field(row),
+        RefusalKind::StillCarried => field(
+            row,
+            4,
+            "with it a line that is carried would be read as a field",
+        ),
         RefusalKind::NotMember => not_member(row),
         RefusalKind::Full => Finding::Row {
             what: "no number is left",

@@ -35,6 +35,7 @@ use Rattle.std.specs.Prelude.{
   Option,
   Some,
   bytes_eq,
+  codes,
   cond,
   fold,
   if◌then◌else◌,
@@ -58,7 +59,7 @@ use Rattle.commands.specs.declared.verb.Verb.TheVariants as verb
 use Rattle.record_fields.specs.Bytes.{bytes_are}
 use Rattle.record_fields.specs.Words.{found}
 use Rattle.receipts.specs.Tokens.{is_printable}
-use Rattle.row_references.specs.Naming.{naming_by, naming_of}
+use Rattle.row_references.specs.Naming.{corrected_fields, is_number_field, naming_by, naming_of}
 use Rattle.row_references.specs.References.{
   Fills,
   FillsOne,
@@ -269,6 +270,7 @@ word_printed verb.Partner = refl
 word_printed verb.Unpartner = refl
 word_printed verb.Unchild = refl
 word_printed verb.Unparticipant = refl
+word_printed verb.Correct = refl
 
 word_utf8 : (v : Verb) → IsUtf8 (verb_word v)
 word_utf8 v = IsUtf8-from_ascii (verb_word v) (printed_ascii (verb_word v) (word_printed v))
@@ -282,7 +284,7 @@ none_of (v ∷ vs) word not =
       | false ↦ λ other. none_of vs word not
     ] refl
 
-pub naming_is : (row : List (List ℕ)) → naming_by (verb_of (get_or row 1 [])) ≡ naming_of row
+pub naming_is : (row : List (List ℕ)) → naming_by (verb_of (get_or row 1 [])) (get_or row 3 []) ≡ naming_of row
 unfolding verb_of
 naming_is [] = refl
 naming_is (token ∷ []) = refl
@@ -290,4 +292,22 @@ naming_is (token ∷ word ∷ fields) = refl
 
 pub naming_none : (row : List (List ℕ)) → (IsUtf8 (get_or row 1 []) → ⊥) → [] ≡ naming_of row
 unfolding verb_of
-naming_none row not = sym (ap naming_by (none_of verbs (get_or row 1 []) not)) ∙ naming_is row
+naming_none row not =
+    sym (ap (λ (o : Option Verb). naming_by o (get_or row 3 [])) (none_of verbs (get_or row 1 []) not)) ∙ naming_is row
+
+-- ---- the field of a correction
+place_utf8 : IsUtf8 (codes "place")
+place_utf8 = IsUtf8-from_ascii (codes "place") (printed_ascii (codes "place") refl)
+
+repository_utf8 : IsUtf8 (codes "repository")
+repository_utf8 = IsUtf8-from_ascii (codes "repository") (printed_ascii (codes "repository") refl)
+
+other_word : (field word : List ℕ) → IsUtf8 word → (IsUtf8 field → ⊥) → bytes_eq field word ≡ false
+other_word field word utf8 not = elim (bytes_eq field word) as (λ b. bytes_eq field word ≡ b → b ≡ false) [
+  | true ↦ λ same. absurd (not (subst IsUtf8 (sym (bytes_are field word same)) utf8))
+  | false ↦ λ other. refl
+] refl
+
+pub no_number_field : (field : List ℕ) → (IsUtf8 field → ⊥) → 2 ∷ [] ≡ corrected_fields field
+no_number_field field not =
+    rw (other_word field (codes "place") place_utf8 not, other_word field (codes "repository") repository_utf8 not) refl

@@ -43,6 +43,7 @@ EACH = (
     (0, "unlink", "16", "1"),
     (17, "merge", "9", "2"),
     (0, "undo", "17"),
+    (0, "correct", "13", "author", "Rev. Ray"),
 )
 
 
@@ -98,7 +99,7 @@ EVENT_4 = shows(
 SOURCE_13 = shows(
     13,
     (0, "source", "Ashby register", "-"),
-    (1, "author", "Rev. Lee", "-"),
+    (1, "author", "Rev. Ray", "-"),
     (1, "holding", "MS 4", 12),
 )
 
@@ -155,6 +156,9 @@ SCENARIOS = (
         refuses(52, "t14", "link", 16, 3, 99, "same farm"),
         refuses(52, "t16", "unlink", 16, 3),
         refuses(52, "t16", "unlink", 99, 1),
+        refuses(52, "t19", "correct", 13, "author", "\r"),
+        refuses(52, "t19", "correct", 99, "author", "Rev. Ray"),
+        refuses(52, "t19", "correct", 13, "sex", "M"),
         refuses(60, "u", "entry", 13, "BAPTISM", "f. 3", 1, "", "", "", "child", "John"),
         refuses(61, "u", "unlink", 16, 3),
         refuses(59, "u", "child", 3, 2),
@@ -188,6 +192,7 @@ SCENARIOS = (
         changes("t14", "link", "016", "0000000002", "01", "same farm"),
         changes("t15", "link", "0016", "1", "02", "same name"),
         changes("t16", "unlink", "00016", "001"),
+        changes("t19", "correct", "0013", "author", "Rev. Ray"),
         makes(17, "t17", "merge", "09", "0000000002"),
         changes("t18", "undo", "00017"),
         refuses(52, "t17", "merge", "2", "9"),

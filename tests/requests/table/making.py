@@ -25,6 +25,7 @@ NAMES = {
     63: "Full",
     64: "NoSuchField",
     65: "NotMember",
+    66: "StillCarried",
     90: "BadRow",
     91: "UnknownVerb",
     92: "FieldCount",

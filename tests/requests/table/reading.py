@@ -44,6 +44,7 @@ GOOD = {
     "unpartner": ("3", "1"),
     "unchild": ("3", "2"),
     "unparticipant": ("4", "1"),
+    "correct": ("4", "value", "court"),
 }
 # The places of the numbers in it, and of those that may be missing.
 NUMBERS = {
@@ -66,6 +67,7 @@ NUMBERS = {
     "unpartner": (0, 1),
     "unchild": (0, 1),
     "unparticipant": (0, 1),
+    "correct": (0,),
 }
 MAY_BE_MISSING = {"family": (0, 1), "event": (4,), "amend": (3,), "place": (1,), "source": (3,)}
 
@@ -102,6 +104,17 @@ NO_SEXES = ("X", "m", "f", "u", "MF", "M ", " M", "male", "\u039c", "M\n")
 NO_PARTNERSHIPS = (
     *("", "Husband", "WIFE", "HUSB", "partner", "child", "spouse", "M", "F", "w", " wife", "wife ", "wife\n", "wives"),
     *("husbands", "husban", "husband\0", "1"),
+)
+
+# The words of fields whose value is a text, and words that are no field's.
+TEXT_FIELDS = (
+    *("tag", "value", "name", "title", "author", "publisher", "call number", "page", "text"),
+    *("name 1", "name 10", "name 4294967295", "role 1", "role 100"),
+)
+NO_FIELDS = (
+    *("", "Sex", "sex ", " sex", "names", "name 0", "name 01", "name  1", "name 1 ", "name -1", "name +1", "name a"),
+    *("name 4294967296", "name 99999999999", "name ", "role", "role ", "role 0", "roles 1", "call_number"),
+    *("call  number", "repo", "kind", "source", "parent", "owner", "PAGE", "name\n1", "value\0"),
 )
 
 # Dates as they are given, and as they are spelt: docs/FORMATS.md, "Dates".
@@ -302,6 +315,17 @@ BYTES = (
             'bytes,"unparticipant,4,1\n"',
             "digest,fab4ff8e6a56c0b5f82c2d056da01989800e80a8fb86c7e558f1b244ad6229a4",
         ),
+        [step for word in TEXT_FIELDS for step in itself("correct", "4", word, 'a, "b"\n')],
+        [step for word in TEXT_FIELDS for step in itself("correct", "4", word, "")],
+        [step for sex in ("M", "F", "U", "") for step in itself("correct", "4", "sex", sex)],
+        [step for quality in (*QUALITIES, "") for step in itself("correct", "4", "quality", quality)],
+        [step for number in ("7", "") for step in itself("correct", "4", "place", number)],
+        [step for number in ("7", "") for step in itself("correct", "4", "repository", number)],
+        itself("correct", "4294967295", "place", "4294967295"),
+        spells(("correct", "004", "place", "0007"), "correct", "4", "place", "7"),
+        spells(("correct", "4", "item", "0000000007"), "correct", "4", "item", "7"),
+        itself("correct", "4", "date", ""),
+        spells(("correct", "4", "date", " 01  may 1700"), "correct", "4", "date", "1 MAY 1700"),
         next_is(1),
     ),
     scenario("numbers in other spellings", list(good_numbers())),
@@ -422,6 +446,15 @@ ROWS = (
         "roles of partners that are none",
         [refuses(90, "x", "partner", "3", role, "1") for role in NO_PARTNERSHIPS],
         [refuses(50, "x", "partner", "3", role, "1") for role in ("husband", "wife")],
+    ),
+    scenario(
+        "fields that are none, and values that are of another type",
+        [refuses(90, "x", "correct", "4", word, "") for word in NO_FIELDS],
+        [refuses(90, "x", "correct", "4", "sex", sex) for sex in NO_SEXES],
+        [refuses(90, "x", "correct", "4", "quality", quality) for quality in NO_QUALITIES],
+        [refuses(90, "x", "correct", "4", word, value) for word in ("place", "repository") for value in NO_NUMBERS],
+        [refuses(90, "x", "correct", "4", "item", value) for value in ("", "0", "1000000", "+1", "a", "1.0")],
+        [refuses(50, "x", "correct", "4", word, "a") for word in TEXT_FIELDS],
     ),
     scenario(
         "qualities that are none",
