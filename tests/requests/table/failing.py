@@ -2,7 +2,7 @@
 
 A request looks for its receipt, at what its numbers name, at the places above a place that has no name, for an entry of
 the same key, for what names the record to remove, and at the next number; it stops at the look that fails, or at the
-check that refuses it.
+check that refuses it. A correction looks at its record a second time, whether it changes; of an entry also for its key.
 """
 
 from __future__ import annotations
@@ -63,6 +63,14 @@ def among(count: int) -> Scenario:
         looks(3, "x", *entry(register)),
         looks(4, "x", "link", baptism, 1, tom, "same farm"),
         looks(3, "x", "unlink", baptism, 1),
+        looks(4, "x", "correct", tom, "name 1", "Thos."),
+        looks(4, "x", "correct", tom, "name 1", "Tom /Lee/"),
+        looks(4, "x", "correct", event, "date", "1701"),
+        looks(5, "x", "correct", event, "tag", "MARR"),
+        looks(4, "x", "correct", cited, "page", "f. 3"),
+        looks(5, "x", "correct", baptism, "text", "Thos."),
+        looks(6, "x", "correct", baptism, "page", "f. 4"),
+        looks(2, "x", "correct", tom, "name 2", "Thos."),
         looks(4, "x", "remove", baptism),
         looks(3, "x", "remove", register),
         looks(4, "x", "remove", ann),
