@@ -44,22 +44,18 @@ use commands::EntryRow;
 use csv::{ByteRecord, Reader, ReaderBuilder};
 use devices::{Device, has_risen};
 use record_text::{Refusal, RefusalKind};
-use row_references::{copied, has_place_reference, with_place};
+use row_references::{copied, has_place_reference, with_any_place};
 use std::alloc::{AllocError, Global};
 use std::io::{ErrorKind, Read};
-
-/// The number in place of a reference where only the form of a row is judged.
-const ANY_NUMBER: u32 = 1;
 
 /// Reads the rows of a batch of register entries. A row is kind, page, item, date, place, text, and then role and name
 /// of each mention, 1 to 100; its place may be a reference. There is no header row; empty lines are no rows, and a byte
 /// order mark before the first is taken off.
 ///
 /// Refused is the first row that is no entry, whatever number a reference has, with its number from 1, in this order:
-/// 90: a field is not UTF-8. 92:
-/// there are too few or too many fields, or a role without a name. 90: a field is not of its type. Without a place come
-/// 94: the reader failed in this call, by its count; and 1: memory was refused, the reader did not count its error, or
-/// there are more rows than numbers of 32 bits.
+/// 90: a field is not UTF-8. 92: there are too few or too many fields, or a role without a name. 90: a field is not of
+/// its type. Without a place come 94: the reader failed in this call, by its count; and 1: memory was refused, the
+/// reader did not count its error, or there are more rows than numbers of 32 bits.
 pub fn read_entries<R: Read + Device>(alloc: Global, input: &mut R) -> Result<BatchRows, Refusal>
     ensures read { IfOk result (ReadsRows (row_bytes (R.remaining input.old))) }
     ensures refused { IfErr result (IsRefused (row_bytes (R.remaining input.old))) }
@@ -202,7 +198,7 @@ fn entry_in_form(alloc: Global, row: &ByteRecord) -> Result<EntryRow, RefusalKin
     ensures { Decided result (ReadsRow (in_form (fields_of row.now))) }
 {
     if has_place_reference(row) {
-        let plain = with_place(alloc, row, ANY_NUMBER)?;
+        let plain = with_any_place(alloc, row)?;
         entry_of(alloc, &plain)
     } else {
         entry_of(alloc, row)

@@ -59,7 +59,7 @@ use Rattle.commands.specs.declared.verb.Verb.TheVariants as verb
 use Rattle.record_fields.specs.Bytes.{bytes_are}
 use Rattle.record_fields.specs.Words.{found}
 use Rattle.receipts.specs.Tokens.{is_printable}
-use Rattle.row_references.specs.Naming.{corrected_fields, is_number_field, naming_by, naming_of}
+use Rattle.row_references.specs.Naming.{corrected_fields, naming_by, naming_of}
 use Rattle.row_references.specs.References.{
   Fills,
   FillsOne,

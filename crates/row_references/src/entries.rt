@@ -1,4 +1,4 @@
-//! References in rows of batches of register entries, which have one in the field of the place alone.
+//! References in rows of batches of register entries, which have one only in the field of the place.
 
 ghost use Rattle.std.specs.Prelude.{◌≡◌, IfOk};
 ghost use Rattle.archive_state.specs.Looks.{CountsFailures, Looked};
@@ -8,6 +8,7 @@ ghost use Rattle.row_references.specs.Entries.{has_place_reference, place_field,
 ghost use Rattle.row_references.specs.References.{kept_number, with_number};
 
 use crate::fields::{field_at, token_bytes, token_in, with_number};
+use crate::numbering::ANY_NUMBER;
 use crate::words::kept_number;
 use archive_state::View;
 use csv::ByteRecord;
@@ -46,4 +47,11 @@ pub fn with_place(alloc: Global, row: &ByteRecord, number: u32) -> Result<ByteRe
     ensures { IfOk result (λ r. fields_of r ≡ with_number (fields_of row.now) place_field number) }
 {
     with_number(alloc, row, PLACE, number)
+}
+
+/// The row with the number 1 for its place, by which its form can be judged. Refused only if out of memory.
+pub fn with_any_place(alloc: Global, row: &ByteRecord) -> Result<ByteRecord, AllocError>
+    ensures { IfOk result (λ r. fields_of r ≡ with_number (fields_of row.now) place_field 1) }
+{
+    with_place(alloc, row, ANY_NUMBER)
 }

@@ -14,7 +14,7 @@ mod naming;
 mod numbering;
 mod words;
 
-pub use entries::{has_place_reference, place_number, with_place};
+pub use entries::{has_place_reference, place_number, with_any_place, with_place};
 pub use fields::{copied, token_in};
 pub use naming::has_references;
 pub use numbering::{numbered, with_any_numbers};

@@ -25,7 +25,7 @@ use record_text::RefusalKind;
 use std::alloc::{AllocError, Global};
 
 /// A number that is put in place of each reference where only the form of a row is judged.
-const ANY_NUMBER: u32 = 1;
+pub(crate) const ANY_NUMBER: u32 = 1;
 
 /// The row with the first number of the answer that is kept for its token in place of each reference. `None`: nothing
 /// is kept for one of the tokens, or an answer that made nothing. Refused as a look is. Whatever the view shows, other
