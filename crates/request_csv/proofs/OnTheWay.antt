@@ -12,7 +12,6 @@ use Rattle.std.proofs.Common.{
   Option,
   Some,
   Result,
-  Ok,
   Err,
   inl,
   inr,

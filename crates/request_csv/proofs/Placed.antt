@@ -1,6 +1,7 @@
 -- One row with a number for its reference.
 use Rattle.std.proofs.Common.{
   ◌≡◌,
+  ◌∙◌,
   ◌⊎◌,
   ℕ,
   Bool,
@@ -14,12 +15,14 @@ use Rattle.std.proofs.Common.{
   Err,
   inl,
   inr,
-  refl,
   ap,
   sym,
+  subst,
 }
 use Rattle.std.specs.Prelude.{IfErr, IfOk, if◌then◌else◌, option_map}
+use Rattle.std.proofs.lemmas.Option.{same_Some}
 use Rattle.record_text.specs.declared.refusal.Refusal.{Refusal}
+use Rattle.record_text.specs.declared.refusal.RefusalKind.{RefusalKind}
 use Rattle.record_text.specs.declared.refusal.RefusalKind.TheVariants.{NoSuch, OutOfMemory}
 use Rattle.commands.specs.declared.entry_row.EntryRow.{EntryRow}
 use Rattle.row_references.specs.Entries.{has_place_reference, place_field}
@@ -41,6 +44,17 @@ module _ (row : Row) (number : Option ℕ) where
 pub plain : (row : Row) (number : Option ℕ) (place : ℕ) (entry : EntryRow) → has_place_reference row ≡ false
     → ReadsRow row (Ok entry) → SettlesRow number row place (Ok entry)
 plain row number place entry none reads = (row, without_reference row number none, reads)
+
+-- one that is refused is refused so too: its number changes nothing
+pub as_it_stands : (number : Option ℕ) (row : Row) (outcome : Result EntryRow RefusalKind)
+    → has_place_reference row ≡ false
+    → (ReadsPlaced number row outcome → ReadsRow row outcome) × (ReadsRow row outcome → ReadsPlaced number row outcome)
+as_it_stands number row outcome none = (
+  λ placed.
+      let same : placed.0 ≡ row = same_Some placed.0 row (sym placed.1 ∙ without_reference row number none) in
+      subst (λ (own : Row). ReadsRow own outcome) same placed.2,
+  λ reads. (row, without_reference row number none, reads),
+)
 
 -- one with a number
 pub numbered : (row : Row) (n place : ℕ) (r : Result EntryRow Refusal) → has_place_reference row ≡ true

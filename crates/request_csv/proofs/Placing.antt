@@ -2,7 +2,6 @@
 use Rattle.std.proofs.Common.{
   ◌≡◌,
   ◌∙◌,
-  ◌⊎◌,
   ◌+◌,
   ◌++◌,
   ◌∷◌,
@@ -11,7 +10,6 @@ use Rattle.std.proofs.Common.{
   [],
   Option,
   Some,
-  Result,
   Ok,
   Err,
   inl,
@@ -27,7 +25,6 @@ use Rattle.std.proofs.Common.{
 }
 use Rattle.std.proofs.lemmas.List.{append-nil, append_assoc}
 use Rattle.record_text.specs.declared.refusal.Refusal.{Refusal}
-use Rattle.record_text.specs.declared.refusal.RefusalKind.TheVariants.{OutOfMemory}
 use Rattle.commands.specs.declared.entry_row.EntryRow.{EntryRow}
 use Rattle.request_csv.specs.Batches.{
   AreEntries,
@@ -38,7 +35,6 @@ use Rattle.request_csv.specs.Batches.{
   Settles,
   SettlesRow,
   number_at,
-  placeless,
 }
 use Rattle.request_csv.specs.Input.{Row}
 use Rattle.request_csv.specs.declared.batch_rows.BatchRow.{BatchRow}
