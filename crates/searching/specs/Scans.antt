@@ -1,6 +1,24 @@
 -- How a text is gone through for its words, a character at a time; proofs/ show that this finds what Words says. No
 -- clause of a public call names it.
-use Rattle.std.specs.Prelude.{ℕ, Bool, true, false, ◌&&◌, ◌||◌, ◌==◌, if◌then◌else◌, List, [], ◌∷◌, ◌++◌, map}
+use Rattle.std.specs.Prelude.{
+  ℕ,
+  Bool,
+  true,
+  false,
+  not,
+  ◌&&◌,
+  ◌||◌,
+  ◌==◌,
+  if◌then◌else◌,
+  List,
+  [],
+  ◌∷◌,
+  ◌++◌,
+  map,
+  Option,
+  Some,
+  None,
+}
 use Rattle.std.specs.Global.{Vec}
 use Rattle.searching.specs.Words.{filled, is_apostrophe, is_word}
 
@@ -17,6 +35,21 @@ begins_text [] cs = true
 begins_text (x ∷ xs) [] = false
 begins_text (x ∷ xs) (c ∷ cs) =
     if is_apostrophe c then begins_text (x ∷ xs) cs else ((x == c) && is_word c) && begins_text xs cs
+
+-- it is the first character of the word, or the word has none
+abbrev pub is_first : List ℕ → ℕ → Bool
+is_first [] c = true
+is_first (x ∷ xs) c = x == c
+
+-- a word may begin after this character; before the first there is none
+abbrev pub may_begin : Option ℕ → Bool
+may_begin None = true
+may_begin (Some c) = not (is_word c)
+
+-- the word begins a word of the text here, after this character
+abbrev pub begins_word : List ℕ → Option ℕ → List ℕ → Bool
+begins_word word before [] = false
+begins_word word before (c ∷ cs) = is_word c && (may_begin before && begins_text word (c ∷ cs))
 
 -- the word begins a word of the text, whose first character may begin one, or goes on with one
 abbrev pub occurs_in : List ℕ → Bool → List ℕ → Bool

@@ -3,7 +3,15 @@
 ghost use Rattle.std.specs.Prelude.{◌≡◌, ◌≢◌, ◌↔◌, ◌++◌, [], ◌∷◌, true, map, IfOk, OnOk, IsTrue, chars};
 ghost use Rattle.std.specs.List.{list_all};
 ghost use Rattle.searching.specs.Folding.{folded_name, folded_text};
-ghost use Rattle.searching.specs.Scans.{begins_text, items, keys, occurs_in};
+ghost use Rattle.searching.specs.Scans.{
+  begins_text,
+  begins_word as begins_word_of,
+  is_first as is_first_of,
+  items,
+  keys,
+  may_begin as may_begin_after,
+  occurs_in,
+};
 ghost use Rattle.searching.specs.Words.{
   all_occur as occur_test,
   filled,
@@ -175,17 +183,49 @@ fn all_occur(words: &[Vec<char>], text: &[char]) -> bool
 fn occurs(word: &[char], text: &[char]) -> bool
     ensures { result ≡ occurs_in word.now true text.now }
 {
-    let mut begins = true;
+    let mut before = None;
     let mut rest = text;
     'each: while let Some((c, after)) = rest.split_first() {
-        let within = is_word(*c);
-        if within && begins && begins_here(word, rest) {
+        if begins_word(word, before, rest) {
             return true;
         }
-        begins = !within;
+        before = Some(*c);
         rest = after;
     }
     false
+}
+
+/// Whether the word begins a word of the text here, after this character. What Unicode says of a character is looked up
+/// only where it is the word's first, which few are.
+fn begins_word(word: &[char], before: Option<char>, text: &[char]) -> bool
+    ensures { result ≡ begins_word_of word.now before text.now }
+{
+    match text {
+        [c, ..] => {
+            is_first(word, *c) && is_word(*c) && may_begin(before) && begins_here(word, text)
+        }
+        [] => false,
+    }
+}
+
+/// Whether this is the first character of the word, or the word has none.
+fn is_first(word: &[char], c: char) -> bool
+    ensures { result ≡ is_first_of word.now c }
+{
+    match word {
+        [first, ..] => *first == c,
+        [] => true,
+    }
+}
+
+/// Whether a word may begin after this character.
+fn may_begin(before: Option<char>) -> bool
+    ensures { result ≡ may_begin_after before }
+{
+    match before {
+        None => true,
+        Some(c) => !is_word(c),
+    }
 }
 
 /// Whether the text begins with the word, where apostrophes are no part of it.
