@@ -27,9 +27,11 @@ use Rattle.std.specs.Ordering.{match_ordering, nat_cmp}
 use Rattle.std.specs.declared.cmp.Ordering.TheVariants.{Equal, Greater, Less}
 use Rattle.archive_state.specs.Changes.{Changes}
 use Rattle.archive_state.specs.declared.changes.Kept.{Kept}
+use Rattle.archive_state.specs.declared.changes.Numbered.{Numbered}
 use Rattle.archive_state.specs.declared.changes.SlipChange.{SlipChange}
 use Rattle.archive_state.specs.declared.changes.SlipChange.TheVariants as change
 use Rattle.store_tables.specs.Rows.{BatchRow, Rows, closed_at, put_by, with_batch, with_closed, with_next}
+use Rattle.store_rows.specs.Pasts.{with_all_changes}
 use Rattle.store_rows.specs.Spans.{Drawn, with_dated_changes}
 use Rattle.store_rows.specs.Writing.{
   with_changes,
@@ -54,6 +56,7 @@ use Rattle.staged_rows.specs.Staging.{
 use Rattle.staging.specs.Opened.{Import}
 use Rattle.import_commits.specs.Commits.{IsBegun}
 use Rattle.store.specs.Calls.{StaysClosed}
+use Rattle.store.proofs.Unchanged.{pasts_only}
 
 abbrev AllClosed : List BatchRow → Type 0
 AllClosed = AllByRecursion (λ (b : BatchRow). not b.is_open ≡ true)
@@ -76,11 +79,13 @@ changes_batches changes rows =
     ∙ ap (λ (r : Rows). r.batches) (removed_only changes.removals put)
     ∙ ap (λ (r : Rows). r.batches) (puts_only changes.puts rows)
 
-pub dated_closed : (changes : Changes) (drawn : Drawn) (rows : Rows)
-    → StaysClosed rows (with_dated_changes changes drawn rows)
-dated_closed changes drawn rows all =
+pub changed_closed : (changes : Changes) (drawn : Drawn) (values : List Numbered) (rows : Rows)
+    → StaysClosed rows (with_all_changes changes drawn values rows)
+changed_closed changes drawn values rows all =
+    let only = pasts_only changes.kept values (with_dated_changes changes drawn rows) in
     subst AllClosed
-    (sym (ap (λ (r : Rows). r.batches) (dated_only changes drawn rows) ∙ changes_batches changes rows)) all
+    (sym (ap (λ (r : Rows). r.batches) only ∙ ap (λ (r : Rows). r.batches) (dated_only changes drawn rows)
+    ∙ changes_batches changes rows)) all
 
 -- ---- rows of an import leave the batches
 staged_batches : (rs : List StagedRow) (rows : Rows) → (with_staged rs rows).batches ≡ rows.batches

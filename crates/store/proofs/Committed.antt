@@ -41,20 +41,21 @@ use Rattle.archive_state.specs.Applied.{applied}
 use Rattle.archive_state.specs.Changes.{Changes}
 use Rattle.archive_state.specs.Content.{Content}
 use Rattle.archive_state.specs.declared.changes.Kept.{Kept}
+use Rattle.archive_state.specs.declared.changes.Numbered.{Numbered}
 use Rattle.archive_core.specs.Applied.{Decides}
 use Rattle.command_checks.specs.Exact.{ChangesNothing}
 use Rattle.archive_core.specs.Exact.{IsExactFor}
-use Rattle.archive_core.specs.Machine.{Does, outcome}
+use Rattle.archive_core.specs.Machine.{Does, outcome, request_digest}
 use Rattle.archive_core.specs.Words.{HasUtf8Words}
 use Rattle.archive_core.specs.declared.request.Request.{Request}
 use Rattle.archive_core.proofs.Serving.{request_sound}
-use Rattle.store_tables.specs.Calls.{Inside, LeavesOnly, Settled}
+use Rattle.store_tables.specs.Calls.{LeavesOnly, Settled}
 use Rattle.store_tables.specs.Rows.{Rows}
 use Rattle.store_rows.specs.Meaning.{AllShallow}
-use Rattle.store_rows.specs.Pasts.{FollowsAll}
-use Rattle.store_rows.specs.Spans.{AreDrawn, Drawn, with_dated_changes}
+use Rattle.store_rows.specs.Pasts.{FollowsAll, with_all_changes}
+use Rattle.store_rows.specs.Spans.{AreDrawn, Drawn}
 use Rattle.store_rows.proofs.Meaning.{changes_mean}
-use Rattle.store_rows.proofs.PastsAside.{none_added}
+use Rattle.store_rows.proofs.PastsAside.{all_dated, all_links, all_means, all_society, all_sought, all_spans}
 use Rattle.store_rows.proofs.SpansAside.{
   dated_means,
   dated_society,
@@ -70,11 +71,14 @@ use Rattle.store.specs.Calls.{
   HasWritten,
   LeavesDoneOrNot,
   LeavesEither,
+  LeavesTogether,
   OnArchive,
   Performs,
 }
 use Rattle.store.specs.Histories.{Accepts, Allows, MayBeFound, has_failed, in_doubt, is_storage}
-use Rattle.store.proofs.Closed.{dated_closed}
+use Rattle.store.specs.Overwritten.{AddsValues, kept_values}
+use Rattle.store.proofs.Closed.{changed_closed}
+use Rattle.store.proofs.Overwritten.{adds_again, adds_anew}
 use Rattle.store.proofs.Unchanged.{applies_nothing, rows_stay}
 use Rattle.staging.proofs.Commits.{committed}
 
@@ -96,32 +100,55 @@ pub writes_nothing : (c : Content) (r : Request) (changes : Changes) → IsExact
     → get c.receipts r.token ≢ None → changes.kept ≡ None
 writes_nothing c r changes exact there = (there_is _ _ (get c.receipts r.token) there exact.0).kept
 
+-- where something is written, it is kept under the token of the request
+kept_so : (N : Type 0) (o : Option Receipt) (kept : Option Kept) (k : Kept)
+    → MatchOption o (kept ≡ Some k) (λ _. N) → (N → kept ≡ None) → kept ≢ None → kept ≡ Some k
+kept_so N None kept k is none some = is
+kept_so N (Some receipt) kept k h none some = absurd (some (none h))
+
 -- ---- what the archive is afterwards
 module _ (society : List ℕ) (c : Content) (rows : Rows) (r : Request) (changes : Changes) (keeps : Keeps society c rows)
     (decided : Decides c (Ok changes) (outcome c r)) (words : HasUtf8Words r.command) where
-  pub keeps_on : (drawn : Drawn) → AreDrawn changes.puts drawn → (AllShallow c → AllShallow (applied c changes))
-      → Keeps society (applied c changes) (with_dated_changes changes drawn rows)
-  keeps_on drawn are shallow = record {
-    means = dated_means changes drawn rows (applied c changes) (changes_mean changes rows c keeps.means);
-    shallow = shallow keeps.shallow;
-    sound = request_sound c (applied c changes) r (Ok changes.answer) words keeps.sound decided;
-    society_is = dated_society changes drawn rows ∙ keeps.society_is;
-    dated = stays_dated changes drawn rows keeps.dated;
-    spans = spans_kept changes drawn rows c are keeps.spans;
-    links = links_kept changes drawn rows c keeps.links;
-    soughts = sought_kept changes drawn rows c keeps.soughts;
-  }
+  abbrev values : List Numbered
+  values = kept_values c r.command changes
 
-  pub acknowledged_anew : (new : State) → IsExactFor c r changes → (AllShallow c → AllShallow (applied c changes))
-      → HasWritten rows changes new → AcknowledgedBy society c rows r changes.answer new
-  acknowledged_anew new exact shallow (drawn, are, settled) = (
+  keeps_on : (drawn : Drawn) → AreDrawn changes.puts drawn → (AllShallow c → AllShallow (applied c changes))
+      → Keeps society (applied c changes) (with_all_changes changes drawn values rows)
+  keeps_on drawn are shallow =
+      let after = applied c changes in record {
+        means = all_means changes drawn values rows after
+            (dated_means changes drawn rows after (changes_mean changes rows c keeps.means));
+        shallow = shallow keeps.shallow;
+        sound = request_sound c after r (Ok changes.answer) words keeps.sound decided;
+        society_is = all_society changes drawn values rows ∙ dated_society changes drawn rows ∙ keeps.society_is;
+        dated = all_dated changes drawn values rows (stays_dated changes drawn rows keeps.dated);
+        spans = all_spans changes drawn values rows after (spans_kept changes drawn rows c are keeps.spans);
+        links = all_links changes drawn values rows after (links_kept changes drawn rows c keeps.links);
+        soughts = all_sought changes drawn values rows after (sought_kept changes drawn rows c keeps.soughts);
+      }
+
+  adds_all : (drawn : Drawn) → IsExactFor c r changes → changes.kept ≢ None
+      → AddsValues c r (applied c changes) rows (with_all_changes changes drawn values rows)
+  adds_all drawn exact some =
+      let k : Kept = record {
+        token = r.token;
+        receipt = record { digest = request_digest r; answer = changes.answer };
+      } in
+      adds_anew c r changes drawn rows k keeps.sound exact.1
+      (kept_so (ChangesNothing c changes) (get c.receipts r.token) changes.kept k exact.0 (λ none. none.kept) some) refl
+
+  pub acknowledged_anew : (new : State) → IsExactFor c r changes → changes.kept ≢ None
+      → (AllShallow c → AllShallow (applied c changes))
+      → HasWritten rows changes values new → AcknowledgedBy society c rows r changes.answer new
+  acknowledged_anew new exact some shallow (drawn, are, settled) = (
     applied c changes,
-    with_dated_changes changes drawn rows,
+    with_all_changes changes drawn values rows,
     decided,
     settled,
     keeps_on drawn are shallow,
-    rows_stay c changes exact.1 drawn rows keeps.sound,
-    dated_closed changes drawn rows,
+    rows_stay c changes exact.1 drawn values rows keeps.sound,
+    changed_closed changes drawn values rows,
+    adds_all drawn exact some,
   )
 
   pub acknowledged_again : (new : State) → IsExactFor c r changes → changes.kept ≡ None → Settled new rows
@@ -129,17 +156,28 @@ module _ (society : List ℕ) (c : Content) (rows : Rows) (r : Request) (changes
   acknowledged_again new exact none settled =
       let same = applies_nothing c changes (nothing_changes c r changes exact none) in
       let did = subst (λ d. Does c r (Ok changes.answer) d) same decided in
-      (c, rows, did, settled, keeps, (λ m e. (refl, refl, refl)), λ closed. closed)
+      (c, rows, did, settled, keeps, (λ m e. (refl, refl, refl)), (λ closed. closed), adds_again c r rows)
 
-  pub done_or_not : (s : State) → LeavesEither s rows changes → LeavesDoneOrNot s society c r
-  done_or_not s either t leaves = elim (either t leaves) [
-    | inl before ↦ inl (rows, before, keeps)
+  pub together : (s : State) → IsExactFor c r changes → changes.kept ≢ None → LeavesEither s rows changes values
+      → LeavesTogether s society c rows r
+  together s exact some either t leaves = elim (either t leaves) [
+    | inl before ↦ inl before
     | inr (drawn, are, good, shallow) ↦ inr (
       applied c changes,
+      with_all_changes changes drawn values rows,
       (changes.answer, decided),
-      (with_dated_changes changes drawn rows, good, keeps_on drawn are (shallow c)),
+      good,
+      keeps_on drawn are (shallow c),
+      adds_all drawn exact some,
     )
   ]
+
+pub done_or_not : (s : State) (society : List ℕ) (c : Content) (rows : Rows) (r : Request) → Keeps society c rows
+    → LeavesTogether s society c rows r → LeavesDoneOrNot s society c r
+done_or_not s society c rows r keeps both t leaves = elim (both t leaves) [
+  | inl before ↦ inl (rows, before, keeps)
+  | inr (after, now, did, good, still, adds) ↦ inr (after, did, (now, good, still))
+]
 
 -- ---- a request by itself
 pub unless_failed : (b : Bool) (r : Request) → b ≡ false → cond b (Some r) None ≡ None
@@ -171,19 +209,18 @@ may_be_done c after r o lost did = subst (λ b. Allows c (cond b [] ((r, o) ∷ 
 
 -- ---- calls in a transaction, and its commit
 
-pub settles : (old mid new : State) (changes : Changes) (rows : Rows)
-    → FollowsAll (record old { in_transaction = true }) mid changes [] → Shows mid new mid.now mid.now false
-    → rows.has_spans ≡ true → Settled old rows → HasWritten rows changes new
-settles old mid new changes rows follows shows has was =
+pub settles : (old mid new : State) (changes : Changes) (values : List Numbered) (rows : Rows)
+    → FollowsAll (record old { in_transaction = true }) mid changes values → Shows mid new mid.now mid.now false
+    → rows.has_spans ≡ true → Settled old rows → HasWritten rows changes values new
+settles old mid new changes values rows follows shows has was =
     let (drawn, are, inside, same) = follows rows has
     (record { is_open = was.is_open; inside = refl; schema = was.schema; good = was.good }) in
-    let all = subst (Inside mid) (none_added changes drawn rows) inside in
-    (drawn, are, committed mid new (with_dated_changes changes drawn rows) all shows)
+    (drawn, are, committed mid new (with_all_changes changes drawn values rows) inside shows)
 
 -- ---- a request that is refused, or in doubt
-pub stays_same : (s : State) (society : List ℕ) (c : Content) (rows : Rows) (r : Request) → Keeps society c rows
-    → LeavesOnly s rows → LeavesDoneOrNot s society c r
-stays_same s society c rows r keeps only t leaves = inl (rows, only t leaves, keeps)
+pub stays_same : (s : State) (society : List ℕ) (c : Content) (rows : Rows) (r : Request)
+    → LeavesOnly s rows → LeavesTogether s society c rows r
+stays_same s society c rows r only t leaves = inl (only t leaves)
 
 pub by_kept : {P : Type 0} (kept : Option Kept) → (kept ≡ None → P) → (kept ≢ None → P) → P
 by_kept None f g = f refl
@@ -211,7 +248,7 @@ ok_performs old new r a ack leaves clean = record {
       (did.0, (did.0, did.2, refl), (did.1, did.3, did.4));
   rows = λ none society c rows was keeps.
       let did = ack society c rows was keeps in
-      (did.0, did.1, (did.0, did.1, did.2, did.5, (refl, refl)), did.3, did.4, did.6);
+      (did.0, did.1, (did.0, did.1, did.2, did.5, did.7, (refl, refl)), did.3, did.4, did.6);
   crash = λ society c has t l.
       let did = ack society c has.0 has.1 has.2 in
       (did.0, (did.0, did.2, refl), (did.1, leaves did.1 did.3 t l, did.4));
@@ -241,8 +278,14 @@ module _ (old new : State) (r : Request) (e : Refusal)
         let did = refused (not_failed r (Err e) none) society c has.0 has.1 has.2 in
         (c, (c, did.0, refl), (has.0, did.1, has.2));
     rows = λ none society c rows was keeps.
-        let did = refused (not_failed r (Err e) none) society c rows was keeps in
-        (c, rows, (c, rows, did.0, (λ m same. (refl, refl, refl)), (refl, refl)), did.1, keeps, λ closed. closed);
+        let did = refused (not_failed r (Err e) none) society c rows was keeps in (
+          c,
+          rows,
+          (c, rows, did.0, (λ m same. (refl, refl, refl)), adds_again c r rows, (refl, refl)),
+          did.1,
+          keeps,
+          λ closed. closed,
+        );
     crash = left_by (is_storage e.kind) refl;
     clean = clean;
   }

@@ -68,7 +68,7 @@ runs_joined : (xs ys : List Done) (c between after : Content) (rows mid now : Ro
 runs_joined [] ys c between after rows mid now h k =
     subst (λ d. RunsOn d rows ys after now) h.0 (subst (λ r. RunsOn between r ys after now) h.1 k)
 runs_joined (x ∷ xs) ys c between after rows mid now h k =
-    (h.0, h.1, h.2, h.3, runs_joined xs ys h.0 between after h.1 mid now h.4 k)
+    (h.0, h.1, h.2, h.3, h.4, runs_joined xs ys h.0 between after h.1 mid now h.5 k)
 
 pub performs_then : (a b d : State) (xs ys : List Done) → Performs a xs b → in_doubt xs ≡ None → Performs b ys d
     → Performs a (xs ++ ys) d

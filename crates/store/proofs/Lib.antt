@@ -9,6 +9,7 @@ mod Looked
 mod Readable
 mod OpenCalls
 pub mod Opened
+mod Overwritten
 mod Recognised
 pub mod Running
 mod Seen

@@ -51,6 +51,7 @@ use Rattle.store.specs.Archives.{IsArchive, Keeps, LeavesArchive}
 use Rattle.store.specs.Calls.{AcknowledgedBy, Acknowledges, LeavesDoneOrNot, OnArchive}
 use Rattle.store.specs.Histories.{is_storage}
 use Rattle.store.specs.Importing.{HasAnswered, HasBegun, HasImport, HasPublished, StaysOn}
+use Rattle.store.proofs.Overwritten.{adds_again}
 
 -- ---- one stage after the other
 pub stays_then : (i j k : Import) (old mid new : State) → StaysOn i old j mid → StaysOn j mid k new
@@ -119,7 +120,7 @@ pub acknowledged_whole : (s : State) (society : List ℕ) (c : Content) (first b
 acknowledged_whole s society c first before r i staged same whole has =
     subst (λ rows. AcknowledgedBy society c rows r i.changes.answer s) same
     (subst (λ (j : Import). AcknowledgedBy society c before r j.changes.answer s) whole
-    (applied c staged.changes, has.1.0, has.0, has.1.1, has.1.2, has.1.3, has.1.4))
+    (applied c staged.changes, has.1.0, has.0, has.1.1, has.1.2, has.1.3, has.1.4, has.1.5))
 
 -- from the beginning of an import on
 pub acknowledged_begun : (mid s : State) (society : List ℕ) (c : Content) (rows : Rows) (r : Request) (a : Answer)
@@ -133,7 +134,7 @@ acknowledged_begun mid s society c rows r a i begun did =
 pub acknowledged_before : (s : State) (society : List ℕ) (c : Content) (rows : Rows) (r : Request) (a : Answer)
     → Keeps society c rows → HasAnswered c rows r a s → AcknowledgedBy society c rows r a s
 acknowledged_before s society c rows r a keeps has =
-    (c, rows, has.0, has.1, keeps, (λ m same. (refl, refl, refl)), λ closed. closed)
+    (c, rows, has.0, has.1, keeps, (λ m same. (refl, refl, refl)), (λ closed. closed), adds_again c r rows)
 
 -- it is just begun, and its answer is kept nowhere
 pub none_kept : (society : List ℕ) (c : Content) (before : Rows) (r : Request) (a : Answer) (i : Import) (s : State)

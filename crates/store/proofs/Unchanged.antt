@@ -11,6 +11,7 @@ use Rattle.std.proofs.Common.{
   map,
   filter,
   cond,
+  Option,
   None,
   Some,
   refl,
@@ -29,9 +30,12 @@ use Rattle.archive_state.specs.Changes.{Changes}
 use Rattle.archive_state.specs.Content.{Content, Records}
 use Rattle.record_shapes.specs.Lists.{Ascends, EachOf}
 use Rattle.archive_state.specs.Sound.{IsSound}
+use Rattle.archive_state.specs.declared.changes.Kept.{Kept}
 use Rattle.archive_state.specs.declared.changes.Numbered.{Numbered}
 use Rattle.command_checks.specs.Exact.{ChangesNothing, IsExact}
-use Rattle.store_tables.specs.Rows.{LineRow, PackRow, RecordRow, Rows}
+use Rattle.earlier_values.specs.Earlier.{past}
+use Rattle.store_tables.specs.Rows.{LineRow, PackRow, RecordRow, Rows, with_past}
+use Rattle.store_rows.specs.Pasts.{with_all_changes, with_all_pasts, with_pasts_written}
 use Rattle.store_rows.specs.Spans.{Drawn, with_dated_changes}
 use Rattle.store_rows.specs.Writing.{with_changes}
 use Rattle.store_rows.proofs.Got.{got_put, got_removed}
@@ -41,8 +45,19 @@ use Rattle.store.specs.Calls.{KeepsRows}
 use Rattle.record_shapes.proofs.Each.{each_all, each_zip}
 use Rattle.list_laws.proofs.Numbers.{is_same, not_it}
 
+-- ---- values of before change nothing else
+all_pasts_only : (token : List ℕ) (ps : List Numbered) (rows : Rows) → with_all_pasts token ps rows
+    ≡ record rows { pasts = (with_all_pasts token ps rows).pasts }
+all_pasts_only token [] rows = refl
+all_pasts_only token (p ∷ ps) rows = all_pasts_only token ps (with_past p.number token (past p.«record») rows)
+
+pub pasts_only : (kept : Option Kept) (ps : List Numbered) (rows : Rows) → with_pasts_written kept ps rows
+    ≡ record rows { pasts = (with_pasts_written kept ps rows).pasts }
+pasts_only None ps rows = refl
+pasts_only (Some kept) ps rows = all_pasts_only kept.token ps rows
+
 -- ---- what a map has after removals
-left_at : (ns : List ℕ) (m : Records) (n : ℕ) → EachOf (λ k. k ≢ n) ns → get (without m ns) n ≡ get m n
+pub left_at : (ns : List ℕ) (m : Records) (n : ℕ) → EachOf (λ k. k ≢ n) ns → get (without m ns) n ≡ get m n
 left_at [] m n others = refl
 left_at (k ∷ ns) m n others =
     left_at ns (remove m k) n others.1 ∙ got_removed m k n ∙ ap (λ b. cond b None (get m n))
@@ -54,7 +69,7 @@ none_stays (k ∷ ns) m n none =
     none_stays ns (remove m k) n
     (got_removed m k n ∙ (elim (k == n) as (λ b. cond b None (get m n) ≡ None) [ true ↦ refl | false ↦ none ]))
 
-gone : (ns : List ℕ) (m : Records) → EachOf (λ n. get (without m ns) n ≡ None) ns
+pub gone : (ns : List ℕ) (m : Records) → EachOf (λ n. get (without m ns) n ≡ None) ns
 gone [] m = tt
 gone (n ∷ ns) m = (
   none_stays ns (remove m n) n
@@ -99,7 +114,7 @@ apart_all (k ∷ ks) ps apart =
 
 -- ---- the rows of numbers at which nothing changes
 module _ (c : Content) (changes : Changes) (exact : IsExact c changes) where
-  put_there : IsSound c → EachOf (λ (p : Numbered). get (applied c changes).records p.number ≡ Some p.«record»)
+  pub put_there : IsSound c → EachOf (λ (p : Numbered). get (applied c changes).records p.number ≡ Some p.«record»)
       changes.puts
   put_there sound =
       each_zip (λ (p : Numbered). get (with_puts c.records changes.puts) p.number ≡ Some p.«record»)
@@ -122,14 +137,18 @@ module _ (c : Content) (changes : Changes) (exact : IsExact c changes) where
       changes.removals exact.there
       (gone changes.removals (with_puts c.records changes.puts)))
 
-  -- spans, links and what is looked for are no rows of records
-  pub rows_stay : (drawn : Drawn) (rows : Rows) → IsSound c
-      → KeepsRows c (applied c changes) rows (with_dated_changes changes drawn rows)
-  rows_stay drawn rows sound m same =
-      let stay = with_changes_stay rows sound m same in (
-        ap (filter (λ (l : LineRow). l.no == m)) (dated_lines changes drawn rows) ∙ stay.0,
-        ap (λ (r : Rows). filter (λ (p : PackRow). p.no == m) r.packs) (dated_only changes drawn rows) ∙ stay.1,
-        ap (filter (λ (r : RecordRow). r.no == m)) (dated_records changes drawn rows) ∙ stay.2,
+  -- spans, links, what is looked for and values of before are no rows of records
+  pub rows_stay : (drawn : Drawn) (values : List Numbered) (rows : Rows) → IsSound c
+      → KeepsRows c (applied c changes) rows (with_all_changes changes drawn values rows)
+  rows_stay drawn values rows sound m same =
+      let stay = with_changes_stay rows sound m same in
+      let only = pasts_only changes.kept values (with_dated_changes changes drawn rows) in (
+        ap (λ (r : Rows). filter (λ (l : LineRow). l.no == m) r.lines) only
+            ∙ ap (filter (λ (l : LineRow). l.no == m)) (dated_lines changes drawn rows) ∙ stay.0,
+        ap (λ (r : Rows). filter (λ (p : PackRow). p.no == m) r.packs) only
+            ∙ ap (λ (r : Rows). filter (λ (p : PackRow). p.no == m) r.packs) (dated_only changes drawn rows) ∙ stay.1,
+        ap (λ (r : Rows). filter (λ (x : RecordRow). x.no == m) r.records) only
+            ∙ ap (filter (λ (r : RecordRow). r.no == m)) (dated_records changes drawn rows) ∙ stay.2,
       )
 
 -- nothing changes

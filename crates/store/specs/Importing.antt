@@ -15,6 +15,7 @@ use Rattle.staging.specs.Opened.{Import}
 use Rattle.import_commits.specs.Commits.{AreWrittenAnew, IsAddition, IsBegun}
 use Rattle.store.specs.Archives.{HasArchive, Keeps}
 use Rattle.store.specs.Calls.{KeepsRows, StaysClosed}
+use Rattle.store.specs.Overwritten.{AddsValues}
 
 -- a request to import, accepted: nothing is kept for it, and the archive is to be what its changes make
 pub record IsAccepted (c : Content) (r : Request) (i : Import) : Type 0 where
@@ -52,11 +53,11 @@ abbrev pub HasAnswered : Content → Rows → Request → Answer → State → T
 HasAnswered c rows r answer s = Does c r (Ok answer) c × Settled s rows × (get c.receipts r.token ≢ None)
 
 -- an import was published, over these rows of before: the request is done, and leaves the rows of what it does not
--- change, and no import open
+-- change, and no import open, and adds no value of before but of what it overwrites
 abbrev pub HasPublished : List ℕ → Content → Rows → Request → Import → State → Type 0
 HasPublished society c before r i s = Does c r (Ok i.changes.answer) (applied c i.changes) × ((now : Rows)
     × Settled s now × Keeps society (applied c i.changes) now × KeepsRows c (applied c i.changes) before now
-    × StaysClosed before now)
+    × StaysClosed before now × AddsValues c r (applied c i.changes) before now)
 
 -- what a connection has, by the import that is open
 abbrev pub Has : List ℕ → Content → Option (Request × Import) → State → Type 0

@@ -7,6 +7,7 @@ pub mod Histories
 pub mod Importing
 pub mod Lives
 pub mod Looking
+pub mod Overwritten
 pub mod Shut
 pub mod Standing
 pub mod Telling

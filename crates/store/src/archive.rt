@@ -59,7 +59,14 @@ ghost use Rattle.store.specs.Adopting.{
   is_foreign,
 };
 ghost use Rattle.store.specs.Archives.{HasArchive, Keeps, LeavesArchive};
-ghost use Rattle.store.specs.Calls.{Acknowledges, LeavesDoneOrNot, OnArchive, Performs, Reads};
+ghost use Rattle.store.specs.Calls.{
+  Acknowledges,
+  LeavesDoneOrNot,
+  LeavesTogether,
+  OnArchive,
+  Performs,
+  Reads,
+};
 ghost use Rattle.store.specs.Creating.{IsSociety, RefusesToCreate, RefusesToMake};
 ghost use Rattle.store.specs.Histories.{
   AreLost,
@@ -72,6 +79,7 @@ ghost use Rattle.store.specs.Histories.{
 ghost use Rattle.store.specs.Importing.{HasAnswered, HasBegun, HasImport, HasPublished, StaysOn};
 ghost use Rattle.store.specs.Lives.{IsCall, IsOpenedOver, IsRefusedOver, IsTakenUpOver};
 ghost use Rattle.store.specs.Looking.{IsRead, IsUnread};
+ghost use Rattle.store.specs.Overwritten.{keeps_past};
 ghost use Rattle.store.specs.Standing.{
   begun_as,
   heard,
@@ -195,7 +203,8 @@ impl<S: Alter> Archive<S> {
     }
 
     /// Does a request, and then answers: an import in commits of at most 256 rows, of which the last publishes it, and
-    /// any other in one commit. A request whose token is kept is answered as before, and nothing is written.
+    /// any other in one commit. A request whose token is kept is answered as before, and nothing is written. In the
+    /// commit of one that puts something right, or removes it, go the values of before that it overwrites.
     ///
     /// Any refusal but 80 leaves the archive as it was. 80: the database failed, and the request is done or not; the
     /// archive has to be opened again, and each later call answers 81. 84: an import is open.
@@ -208,6 +217,10 @@ impl<S: Alter> Archive<S> {
         ensures repeated { HasCleanDisk (state S.Store self.new.conn) → OnArchive (state S.Store self.old.conn)
             (λ society c rows.
             get c.receipts «request».now.token ≢ None → LeavesOnly (state S.Store self.new.conn) rows) }
+        ensures together { HasCleanDisk (state S.Store self.new.conn) → shuts self.old.is_lost self.old.import ≡ false
+            → keeps_past «request».now.command ≡ true
+            → IfErr result (λ e. OnArchive (state S.Store self.old.conn) (λ society c rows.
+            LeavesTogether (state S.Store self.new.conn) society c rows «request».now)) }
         ensures lost { shuts self.old.is_lost self.old.import ≡ false
             → shuts self.new.is_lost self.new.import ≡ has_failed result }
         ensures failed { shuts self.old.is_lost self.old.import ≡ false → self.new.is_lost ≡ has_failed result }

@@ -13,26 +13,28 @@ ghost use Rattle.import_commits.specs.Commits.{LeavesEither as LeavesOneOf};
 ghost use Rattle.store.specs.Calls.{LeavesEither, WritesChanges};
 ghost use Rattle.store.specs.Histories.{is_storage};
 
-use archive_state::Changes;
+use archive_state::{Changes, Numbered};
 use record_text::RefusalKind;
 use sqlite::{Alter, Connection, Error};
 use std::alloc::Global;
 use store_rows::write_changes;
 
-/// Writes changes in one transaction, and commits it. 1: memory was refused, and nothing is committed. 80: the database
-/// failed, and the changes are committed or not.
+/// Writes changes, and values of before, in one transaction, and commits it. 1: memory was refused, and nothing is
+/// committed. 80: the database failed, and all of them are committed or none.
 pub(crate) fn commit_changes<S: Alter>(
     alloc: Global,
     conn: &mut Connection<S>,
     changes: &Changes,
+    pasts: &[Numbered],
 ) -> Result<(), RefusalKind>
     requires autocommit { conn.old.in_transaction ≡ false }
     ensures done { HasCleanDisk (state S.Store conn.new)
-        → OnOk result (WritesChanges (state S.Store conn.old) changes.now (state S.Store conn.new)) }
+        → OnOk result (WritesChanges (state S.Store conn.old) changes.now pasts.now
+        (state S.Store conn.new)) }
     ensures shallow { OnOk result ((c : Content) → AllShallow c → AllShallow (applied c changes.now)) }
     ensures crash { HasCleanDisk (state S.Store conn.new)
         → (rows : Rows) → rows.has_spans ≡ true → Settled (state S.Store conn.old) rows
-        → LeavesEither (state S.Store conn.new) rows changes.now }
+        → LeavesEither (state S.Store conn.new) rows changes.now pasts.now }
     ensures undone { HasCleanDisk (state S.Store conn.new)
         → IfErr result (λ kind. is_storage kind ≡ false → (rows : Rows) → Settled (state S.Store conn.old) rows
         → LeavesOnly (state S.Store conn.new) rows) }
@@ -40,7 +42,7 @@ pub(crate) fn commit_changes<S: Alter>(
     ensures clean { HasCleanDisk (state S.Store conn.new) → HasCleanDisk (state S.Store conn.old) }
     ensures ended { conn.new.in_transaction ≡ false }
 {
-    match try_commit(alloc, conn, changes) {
+    match try_commit(alloc, conn, changes, pasts) {
         Ok(Ok(())) => Ok(()),
         Ok(Err(_)) => Err(RefusalKind::Storage),
         Err(kind) => Err(kind),
@@ -53,14 +55,16 @@ fn try_commit<S: Alter>(
     alloc: Global,
     conn: &mut Connection<S>,
     changes: &Changes,
+    pasts: &[Numbered],
 ) -> Result<Result<(), Error>, RefusalKind>
     requires autocommit { conn.old.in_transaction ≡ false }
     ensures done { HasCleanDisk (state S.Store conn.new) → IfOk result (λ committed. OnOk committed
-        (WritesChanges (state S.Store conn.old) changes.now (state S.Store conn.new))) }
+        (WritesChanges (state S.Store conn.old) changes.now pasts.now
+        (state S.Store conn.new))) }
     ensures shallow { OnOk result ((c : Content) → AllShallow c → AllShallow (applied c changes.now)) }
     ensures crash { HasCleanDisk (state S.Store conn.new)
         → (rows : Rows) → rows.has_spans ≡ true → Settled (state S.Store conn.old) rows
-        → LeavesEither (state S.Store conn.new) rows changes.now }
+        → LeavesEither (state S.Store conn.new) rows changes.now pasts.now }
     ensures undone { HasCleanDisk (state S.Store conn.new)
         → OnErr result ((rows : Rows) → Settled (state S.Store conn.old) rows
         → LeavesOneOf (state S.Store conn.new) rows rows) }
@@ -69,7 +73,7 @@ fn try_commit<S: Alter>(
     ensures ended { conn.new.in_transaction ≡ false }
 {
     let mut tx = conn.transaction();
-    match write_changes(alloc, &mut tx, changes, &[]) {
+    match write_changes(alloc, &mut tx, changes, pasts) {
         Ok(()) => Ok(tx.commit()),
         Err(kind) => {
             tx.rollback();

@@ -10,7 +10,9 @@ ghost use Rattle.archive_core.specs.Machine.{Does, Done, Runs};
 ghost use Rattle.archive_core.specs.declared.request.Request.{Request};
 ghost use Rattle.receipts.specs.declared.answer.Answer.{Answer};
 ghost use Rattle.store.specs.Archives.{HasArchive, IsArchive};
-ghost use Rattle.store.specs.Calls.{Performs};
+ghost use Rattle.store_rows.specs.Pasts.{HasMorePasts};
+ghost use Rattle.store_tables.specs.Rows.{PastRow, Rows};
+ghost use Rattle.store.specs.Calls.{Performs, RunsOn};
 ghost use Rattle.store.specs.Earlier.{HoldsArchive};
 ghost use Rattle.staging.specs.Opened.{Import};
 ghost use Rattle.store.specs.Histories.{in_doubt};
@@ -89,3 +91,9 @@ pub fn looks_are_a_call<S: Alter>()
 {
     an_import_that_is_begun_is_in_no_view();
 }
+
+/// No run of requests changes or removes a row of values of before: all that there were stay, and first.
+pub fn values_of_before_are_only_added()
+    ensures { (calls : List Done) (c after : Content) (rows now : Rows) → RunsOn c rows calls after now
+        → (more : List PastRow) × HasMorePasts rows now more }
+{}

@@ -15,6 +15,7 @@ mod importing;
 pub mod laws;
 mod looking;
 mod open_imports;
+mod overwriting;
 mod performing;
 mod reading;
 mod staged;

@@ -15,20 +15,20 @@ ghost use Rattle.store_rows.specs.Meaning.{AllShallow};
 ghost use Rattle.store.specs.Histories.{is_storage};
 ghost use Rattle.store.specs.Calls.{
   Acknowledges,
-  LeavesDoneOrNot,
   LeavesEither,
+  LeavesTogether,
   OnArchive,
   Performs,
   WritesChanges,
 };
+ghost use Rattle.store.specs.Overwritten.{keeps_past};
 
 use crate::archive::Archive;
 use crate::committing::commit_changes;
-use crate::deciding::decide_on;
+use crate::deciding::{Plan, decide_on};
 use crate::failing::is_storage;
 use crate::staged::import_on;
 use archive_core::Request;
-use archive_state::Changes;
 use commands::Command;
 use gedcom_tree::Forest;
 use receipts::Answer;
@@ -56,6 +56,9 @@ pub(crate) fn perform_on<S: Alter>(
     ensures refused { HasCleanDisk (state S.Store archive.new.conn) → IfErr result (λ e. is_storage e.kind ≡ false
         → OnArchive (state S.Store archive.old.conn)
         (λ society c rows. Settled (state S.Store archive.new.conn) rows)) }
+    ensures together { HasCleanDisk (state S.Store archive.new.conn) → keeps_past «request».now.command ≡ true
+        → IfErr result (λ e. OnArchive (state S.Store archive.old.conn) (λ society c rows.
+        LeavesTogether (state S.Store archive.new.conn) society c rows «request».now)) }
     ensures placed { IfErr result (λ e. is_stop e.kind ≡ true → e.at ≡ None) }
     ensures quiet { HasCleanDisk (state S.Store archive.new.conn) → OnArchive (state S.Store archive.old.conn)
         (λ society c rows. OnOk result (archive.new.failures ≡ 0)) }
@@ -98,6 +101,9 @@ fn perform_at_once<S: Alter>(
     ensures refused { HasCleanDisk (state S.Store archive.new.conn) → IfErr result (λ e. is_storage e.kind ≡ false
         → OnArchive (state S.Store archive.old.conn)
         (λ society c rows. Settled (state S.Store archive.new.conn) rows)) }
+    ensures together { HasCleanDisk (state S.Store archive.new.conn)
+        → IfErr result (λ e. OnArchive (state S.Store archive.old.conn) (λ society c rows.
+        LeavesTogether (state S.Store archive.new.conn) society c rows «request».now)) }
     ensures placed { IfErr result (λ e. is_stop e.kind ≡ true → e.at ≡ None) }
     ensures quiet { HasCleanDisk (state S.Store archive.new.conn) → OnArchive (state S.Store archive.old.conn)
         (λ society c rows. OnOk result (archive.new.failures ≡ 0)) }
@@ -139,9 +145,9 @@ fn try_request<S: Alter>(
     ensures refused { HasCleanDisk (state S.Store archive.new.conn)
         → IfErr result (λ e. is_storage e.kind ≡ false → OnArchive (state S.Store archive.old.conn) (λ society c rows.
         Does c «request».now (Err e) c × LeavesOnly (state S.Store archive.new.conn) rows)) }
-    ensures crash { HasCleanDisk (state S.Store archive.new.conn)
+    ensures together { HasCleanDisk (state S.Store archive.new.conn)
         → IfErr result (λ e. OnArchive (state S.Store archive.old.conn) (λ society c rows.
-        LeavesDoneOrNot (state S.Store archive.new.conn) society c «request».now)) }
+        LeavesTogether (state S.Store archive.new.conn) society c rows «request».now)) }
     ensures repeated { HasCleanDisk (state S.Store archive.new.conn) → OnArchive (state S.Store archive.old.conn)
         (λ society c rows.
         get c.receipts «request».now.token ≢ None → LeavesOnly (state S.Store archive.new.conn) rows) }
@@ -151,9 +157,9 @@ fn try_request<S: Alter>(
         (λ society c rows. OnOk result (archive.new.failures ≡ 0)) }
 {
     match decide_on(alloc, archive, request) {
-        Ok(changes) => {
-            let answer = changes.answer;
-            match make_changes(alloc, &mut archive.conn, changes) {
+        Ok(plan) => {
+            let answer = plan.changes.answer;
+            match make_changes(alloc, &mut archive.conn, plan) {
                 Ok(()) => Ok(answer),
                 Err(kind) => Err(Refusal { kind, at: None }),
             }
@@ -162,22 +168,24 @@ fn try_request<S: Alter>(
     }
 }
 
-/// Makes the changes that were decided. Where the answer was kept before there are none, and nothing is written.
+/// Makes the changes that were decided, and keeps the values of before. Where the answer was kept before there are none,
+/// and nothing is written.
 fn make_changes<S: Alter>(
     alloc: Global,
     conn: &mut Connection<S>,
-    changes: Changes,
+    plan: Plan,
 ) -> Result<(), RefusalKind>
     requires autocommit { conn.old.in_transaction ≡ false }
-    ensures again { changes.kept ≡ None → conn.new ≡ conn.old }
-    ensures kept { IfErr result (λ _. changes.kept ≢ None) }
-    ensures made { changes.kept ≢ None → HasCleanDisk (state S.Store conn.new)
-        → OnOk result (WritesChanges (state S.Store conn.old) changes (state S.Store conn.new)) }
-    ensures shallow { changes.kept ≢ None
-        → OnOk result ((c : Content) → AllShallow c → AllShallow (applied c changes)) }
-    ensures crash { changes.kept ≢ None → HasCleanDisk (state S.Store conn.new)
+    ensures again { plan.changes.kept ≡ None → conn.new ≡ conn.old }
+    ensures kept { IfErr result (λ _. plan.changes.kept ≢ None) }
+    ensures made { plan.changes.kept ≢ None → HasCleanDisk (state S.Store conn.new)
+        → OnOk result (WritesChanges (state S.Store conn.old) plan.changes plan.values.items
+        (state S.Store conn.new)) }
+    ensures shallow { plan.changes.kept ≢ None
+        → OnOk result ((c : Content) → AllShallow c → AllShallow (applied c plan.changes)) }
+    ensures crash { plan.changes.kept ≢ None → HasCleanDisk (state S.Store conn.new)
         → (rows : Rows) → rows.has_spans ≡ true → Settled (state S.Store conn.old) rows
-        → LeavesEither (state S.Store conn.new) rows changes }
+        → LeavesEither (state S.Store conn.new) rows plan.changes plan.values.items }
     ensures undone { HasCleanDisk (state S.Store conn.new)
         → IfErr result (λ kind. is_storage kind ≡ false → (rows : Rows) → Settled (state S.Store conn.old) rows
         → LeavesOnly (state S.Store conn.new) rows) }
@@ -185,8 +193,8 @@ fn make_changes<S: Alter>(
     ensures clean { HasCleanDisk (state S.Store conn.new) → HasCleanDisk (state S.Store conn.old) }
     ensures ended { conn.new.in_transaction ≡ false }
 {
-    match &changes.kept {
+    match &plan.changes.kept {
         None => Ok(()),
-        Some(_) => commit_changes(alloc, conn, &changes),
+        Some(_) => commit_changes(alloc, conn, &plan.changes, &plan.values),
     }
 }

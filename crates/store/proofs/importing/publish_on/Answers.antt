@@ -2,6 +2,7 @@ use Rattle.sqlite.specs.Held.{state}
 use Rattle.staged_rows.specs.Staging.{with_published}
 use Rattle.store.proofs.Closed.{published_closed}
 use Rattle.store.proofs.Imports.{ok_both, publish_leaves, published_keeps, published_rows}
+use Rattle.store.proofs.Overwritten.{published_adds}
 use Rattle.store.proofs.importing.publish_on.Goals as goal
 
 pub returns-clause-published : goal.returns-clause-published
@@ -19,6 +20,7 @@ returns-clause-published g c clean =
         published_rows c.a_published_import_leaves_the_rows_of_other_numbers.ensures society content r import has.0
             has.2 none,
         published_closed has.2.before has.0 import has.2.begun,
+        published_adds content r has.2.before has.0 import has.2.begun has.2.accepted.adds,
       ),
     )) (c.publish.ensures.published clean) c.publish.ensures.shallow
 

@@ -5,7 +5,7 @@ use Rattle.sqlite.specs.Tree.{Trees}
 use Rattle.archive_core.specs.Machine.{Does}
 use Rattle.store_tables.proofs.Queries.{only_committed}
 use Rattle.store.specs.Histories.{is_storage}
-use Rattle.store.proofs.Committed.{ok_performs, refusal_performs}
+use Rattle.store.proofs.Committed.{done_or_not, ok_performs, refusal_performs}
 use Rattle.store.proofs.performing.perform_at_once.Goals as goal
 
 pub returns-in-Ok-clause-performs : goal.returns-in-Ok-clause-performs
@@ -36,7 +36,8 @@ returns-in-Err-clause-performs g c clean =
       after.settled clean sure rows did.1,
       λ t l. did.1 t (left t l),
     ))
-    (λ society content rows was keeps t l. c.in-Err.ensures.crash before society content rows was keeps t (left t l))
+    (λ society content rows was keeps. done_or_not new society content rows r keeps
+    (λ t l. c.in-Err.ensures.together before society content rows was keeps t (left t l)))
     (c.in-Err.ensures.clean before)
 
 pub returns-in-Err-clause-refused : goal.returns-in-Err-clause-refused
@@ -54,6 +55,14 @@ returns-in-Err-clause-repeated g c clean society content rows was keeps kept t l
     let before : HasCleanDisk (state g.S.Store c.try_request.new.archive.conn) = omega
     (arith, after.survives.clean, clean) in
     c.in-Err.ensures.repeated before society content rows was keeps kept t
+    (elim (after.survives.crash clean t l) [ inl was ↦ was | inr none ↦ absurd none ])
+
+pub returns-in-Err-clause-together : goal.returns-in-Err-clause-together
+returns-in-Err-clause-together g c clean society content rows was keeps t l =
+    let after = c.refusal_after.ensures in
+    let before : HasCleanDisk (state g.S.Store c.try_request.new.archive.conn) = omega
+    (arith, after.survives.clean, clean) in
+    c.in-Err.ensures.together before society content rows was keeps t
     (elim (after.survives.crash clean t l) [ inl was ↦ was | inr none ↦ absurd none ])
 
 pub returns-in-Err-clause-placed : goal.returns-in-Err-clause-placed
