@@ -67,6 +67,10 @@ ANSWERS = {
     "Which places does no record name?": [(15, "Mill Field, Ashby, Kent")],
     "What was the request with the token t9 answered?": [(9, 1)],
     "Which merges were not undone?": [(13, 6, 12)],
+    "What was record 10 before, and which request changed it?": [
+        (1, "u3", "0 entry BAPTISM\n1 key>4 2 f. 3\n1 page f. 3\n1 item 2\n1 date>2 5 MAY 1761\n"
+                  "1 text Ann of Tom\rand of Eva\n1 mention Ann\n2 role child\n1 mention Tom Lee\n2 role father\n"),
+    ],
     "Which records have a link to record 5?": [(7,), (9,), (10,), (14,)],
 }
 

@@ -43,6 +43,7 @@ import lists  # noqa: E402
 import memory  # noqa: E402
 import merges  # noqa: E402
 import page_commands  # noqa: E402
+import past_values  # noqa: E402
 import plain_exports  # noqa: E402
 import properties  # noqa: E402
 import queries  # noqa: E402
@@ -77,6 +78,7 @@ PARTS = (
     archives,
     until_refused,
     references,
+    past_values,
     imports,
     kept_gate,
     leaks,
