@@ -168,8 +168,8 @@ fn try_request<S: Alter>(
     }
 }
 
-/// Makes the changes that were decided, and keeps the values of before. Where the answer was kept before there are none,
-/// and nothing is written.
+/// Makes the changes that were decided, and keeps the values of before. Where the answer was kept before there are
+/// none, and nothing is written.
 fn make_changes<S: Alter>(
     alloc: Global,
     conn: &mut Connection<S>,

@@ -69,7 +69,8 @@ returns-clause-readable g c clean rows content was seen =
     let shown = shown_of old archive.is_lost kept was
     (λ t l. only_committed old rows t was (g.met.S.Store.settled archive.conn.store t was.is_open l)) in
     let still = ((c.decide_wholly-decided.ensures.decides clean).1 kept shown).0 in
-    IfErr-weaker c.decide_wholly-decided.result _ _ (λ e counted. none_is_bad 0 c.decide_wholly-decided.new.view.failures e refl
+    IfErr-weaker c.decide_wholly-decided.result _ _
+    (λ e counted. none_is_bad 0 c.decide_wholly-decided.new.view.failures e refl
     (still.none c.if-archive.false) counted.0) c.decide_wholly-decided.ensures.counts.1
 
 pub returns-clause-same : goal.returns-clause-same
