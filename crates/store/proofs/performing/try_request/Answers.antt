@@ -1,7 +1,8 @@
-use Rattle.std.proofs.Common.{sym, subst, refl}
+use Rattle.std.proofs.Common.{ap, sym, subst, refl}
 use Rattle.sqlite.specs.Held.{state}
 use Rattle.store_tables.specs.Calls.{LeavesOnly, Settled}
-use Rattle.store.specs.Calls.{HasWritten, LeavesEither}
+use Rattle.archive_state.specs.Changes.{Changes}
+use Rattle.store.specs.Calls.{AcknowledgedBy, HasWritten, LeavesEither}
 use Rattle.store.proofs.Committed.{
   acknowledged_again,
   acknowledged_anew,
@@ -29,13 +30,14 @@ returns-in-Ok-make_changes-clause-acknowledged g c clean society content rows wa
     let words = c.in-Ok.ensures.words in
     let exact = c.in-Ok.ensures.exact before rows content was seen in
     let settled = (c.in-Ok.ensures.same before rows content was seen).0 in
-    by_kept changes.kept
+    subst (λ a. AcknowledgedBy society content rows r a new) (sym (ap (λ (x : Changes). x.answer) c.plan.view_is))
+    (by_kept changes.kept
     (λ none. acknowledged_again society content rows r changes keeps decided words new exact none
     (subst (λ h. Settled (state g.S.Store h) rows) (sym (made.again none)) settled))
     (λ some. acknowledged_anew society content rows r changes keeps decided words new exact some
     (made.shallow some content)
     (subst (λ values. HasWritten rows changes values new) (c.in-Ok.ensures.values before rows content was seen)
-    (made.made some clean rows keeps.dated.has_spans settled)))
+    (made.made some clean rows keeps.dated.has_spans settled))))
 
 pub returns-in-Ok-make_changes-clause-repeated : goal.returns-in-Ok-make_changes-clause-repeated
 returns-in-Ok-make_changes-clause-repeated g c clean society content rows was keeps kept =
