@@ -5,6 +5,7 @@ mod Closed
 mod Committed
 pub mod Histories
 mod Imports
+mod InTurn
 mod Looked
 mod Readable
 mod OpenCalls

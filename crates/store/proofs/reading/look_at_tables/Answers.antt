@@ -2,7 +2,7 @@ use Rattle.std.proofs.Common.{arith, Ok, Err}
 use Rattle.sqlite.specs.Held.{state}
 use Rattle.sqlite.specs.State.{HasCleanDisk}
 use Rattle.store_tables.proofs.Asking.{shown_same}
-use Rattle.store_tables.proofs.Preparing.{looks_at_tables, survives_both}
+use Rattle.store.proofs.InTurn.{looks_at_tables, survives_both}
 use Rattle.store_tables.specs.Prepared.{queries_of}
 use Rattle.store.proofs.Recognised.{by_tables, by_version, known, same_tables, same_version, unknown}
 use Rattle.store.proofs.reading.look_at_tables.Goals as goal

@@ -2,7 +2,7 @@ use Rattle.std.proofs.Common.{arith, inl, inr, refl}
 use Rattle.sqlite.specs.Held.{state}
 use Rattle.sqlite.specs.State.{HasCleanDisk}
 use Rattle.sqlite.specs.Tree.{Trees}
-use Rattle.store_tables.proofs.Preparing.{survives_both}
+use Rattle.store.proofs.InTurn.{survives_both}
 use Rattle.store.specs.Histories.{is_storage}
 use Rattle.store.proofs.Recognised.{as_it_was, fails_after, leaves_store, stays_after, stays_known, told_after}
 use Rattle.store.proofs.reading.recognise.Goals as goal
