@@ -1,7 +1,6 @@
 use Rattle.std.proofs.Common.{ap, sym, subst, refl}
 use Rattle.sqlite.specs.Held.{state}
 use Rattle.store_tables.specs.Calls.{LeavesOnly, Settled}
-use Rattle.store.specs.declared.deciding.Plan.{Plan}
 use Rattle.store.specs.Calls.{AcknowledgedBy, HasWritten, LeavesEither}
 use Rattle.store.proofs.Committed.{
   acknowledged_again,
@@ -13,6 +12,7 @@ use Rattle.store.proofs.Committed.{
   want_refused,
   writes_nothing,
 }
+use Rattle.store.specs.declared.deciding.Plan.{Plan}
 use Rattle.store.proofs.Viewed.{seen_of}
 use Rattle.store.proofs.performing.try_request.Goals as goal
 
@@ -30,7 +30,7 @@ returns-in-Ok-make_changes-clause-acknowledged g c clean society content rows wa
     let words = c.in-Ok.ensures.words in
     let exact = c.in-Ok.ensures.exact before rows content was seen in
     let settled = (c.in-Ok.ensures.same before rows content was seen).0 in
-    subst (λ a. AcknowledgedBy society content rows r a new) (sym (ap (λ (p : Plan). p.changes.answer) c.plan.view_is))
+    subst (λ a. AcknowledgedBy society content rows r a new) (sym (ap (λ (x : Plan). x.changes.answer) c.plan.view_is))
     (by_kept changes.kept
     (λ none. acknowledged_again society content rows r changes keeps decided words new exact none
     (subst (λ h. Settled (state g.S.Store h) rows) (sym (made.again none)) settled))

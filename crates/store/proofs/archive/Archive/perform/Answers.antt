@@ -28,3 +28,6 @@ returns-clause-called g c r =
 
 pub returns-clause-quiet : goal.returns-clause-quiet
 returns-clause-quiet g c clean kept = c.perform_on-outcome.ensures.quiet clean
+
+pub returns-clause-together : goal.returns-clause-together
+returns-clause-together g c clean free keeps = c.perform_on-outcome.ensures.together clean keeps
