@@ -8,7 +8,7 @@ ghost use Rattle.html_answers.specs.Asked.{asked_by};
 use crate::asked::{HtmlAsked, read_request};
 use crate::replies::{Media, refusal, reply};
 use crate::showing::{HtmlFound, show};
-use html_pages::HtmlLibrary;
+use html_lists::HtmlLists;
 use html_parts::Words;
 use http::StatusCode;
 use room_requests::{Answering, Head, HeadRead, is_head};
@@ -17,9 +17,7 @@ use std::alloc::{AllocError, Global};
 /// A room where pages of HTML of a masked state lie open.
 #[derive(Drop)]
 pub struct HtmlRoom {
-    pub library: HtmlLibrary,
-    /// The name of the society.
-    pub society: Words,
+    pub lists: HtmlLists,
     /// A name by which the room may be asked for, beside those of this machine.
     pub host: Option<Words>,
 }
@@ -27,17 +25,19 @@ pub struct HtmlRoom {
 impl Answering for HtmlRoom {
     ghost use Rattle.std.specs.Prelude.{⊤};
 
-    ghost answers = { λ r. answers.answer_to r.library.records r.society r.host };
+    ghost answers = { λ r. answers.answer_to r.lists.state.records r.lists.society r.host };
 
     ghost is_honest = { λ r. ⊤ };
 
     fn answer(&self, alloc: Global, shown: HeadRead) -> Result<Vec<u8>, AllocError> {
         match shown {
             HeadRead::Nothing => Ok(Vec::new(alloc)),
-            HeadRead::Malformed => refusal(alloc, &self.society, StatusCode::BAD_REQUEST, true),
+            HeadRead::Malformed => {
+                refusal(alloc, self.lists.society(), StatusCode::BAD_REQUEST, true)
+            }
             HeadRead::TooLarge => refusal(
                 alloc,
-                &self.society,
+                self.lists.society(),
                 StatusCode::REQUEST_HEADER_FIELDS_TOO_LARGE,
                 true,
             ),
@@ -48,15 +48,15 @@ impl Answering for HtmlRoom {
 
 /// The answer to a whole head.
 fn answer_head(alloc: Global, room: &HtmlRoom, head: &Head) -> Result<Vec<u8>, AllocError>
-    ensures { IfOk result (λ bytes. bytes.items ≡ answers.answer_of room.now.library.records room.now.society
-        (asked_by room.now.host head.now) (not (is_head_of head.now))) }
+    ensures { IfOk result (λ bytes. bytes.items ≡ answers.answer_of room.now.lists.state.records
+        room.now.lists.society (asked_by room.now.host head.now) (not (is_head_of head.now))) }
 {
     let with_page = !is_head(head);
     match read_request(alloc, &room.host, head)? {
-        HtmlAsked::Refused(status) => refusal(alloc, &room.society, status, with_page),
+        HtmlAsked::Refused(status) => refusal(alloc, room.lists.society(), status, with_page),
         HtmlAsked::Page { page, query } => {
-            let found = show(alloc, &room.library, room.society.as_str(), page, &query)?;
-            answer_page(alloc, &room.society, &found, with_page)
+            let found = show(alloc, &room.lists, page, &query)?;
+            answer_page(alloc, room.lists.society(), &found, with_page)
         }
     }
 }

@@ -6,7 +6,7 @@ ghost use Rattle.html_answers.specs.declared.asked.HtmlPage.TheVariants as kind;
 ghost use Rattle.room_requests.specs.declared.page.Page.TheVariants as room;
 
 use crate::asked::HtmlPage;
-use html_lists::{home, register, search, surname};
+use html_lists::{HtmlLists, register, surname};
 use html_pages::HtmlLibrary;
 use html_parts::{Words, style_sheet};
 use room_requests::{Page, Query, number_in};
@@ -29,32 +29,33 @@ pub(crate) enum HtmlFound {
 /// What is found of a page with its query.
 pub(crate) fn show(
     alloc: Global,
-    library: &HtmlLibrary,
-    society: &str,
+    lists: &HtmlLists,
     page: HtmlPage,
     query: &Query,
 ) -> Result<HtmlFound, AllocError>
-    ensures { IfOk result (λ found. found ≡ shows.shown library.now.records society.now page query.now) }
+    ensures { IfOk result
+        (λ found. found ≡ shows.shown lists.now.state.records lists.now.society page query.now) }
 {
     match page {
-        HtmlPage::Room(page) => show_room(alloc, library, society, page, query),
-        HtmlPage::Search => show_search(alloc, library, society, query),
+        HtmlPage::Room(page) => show_room(alloc, lists, page, query),
+        HtmlPage::Search => show_search(alloc, lists, query),
         HtmlPage::Style => Ok(HtmlFound::Style(Words::new(style_sheet(alloc)?))),
     }
 }
 
 fn show_room(
     alloc: Global,
-    library: &HtmlLibrary,
-    society: &str,
+    lists: &HtmlLists,
     page: Page,
     query: &Query,
 ) -> Result<HtmlFound, AllocError>
     ensures { IfOk result
-        (λ found. found ≡ shows.shown library.now.records society.now (kind.Room page) query.now) }
+        (λ found. found ≡ shows.shown lists.now.state.records lists.now.society (kind.Room page) query.now) }
 {
+    let library = lists.library();
+    let society = lists.society().as_str();
     match page {
-        Page::Index => Ok(HtmlFound::Page(home(alloc, library, society)?)),
+        Page::Index => Ok(HtmlFound::Page(lists.home(alloc)?)),
         Page::Person(number) => Ok(page_found(library.person(alloc, society, number)?)),
         Page::Family(number) => Ok(page_found(library.family(alloc, society, number)?)),
         Page::Pedigree(number) => {
@@ -177,35 +178,30 @@ fn show_surname(
 }
 
 /// What is found by the words that a query has.
-fn show_search(
-    alloc: Global,
-    library: &HtmlLibrary,
-    society: &str,
-    query: &Query,
-) -> Result<HtmlFound, AllocError>
+fn show_search(alloc: Global, lists: &HtmlLists, query: &Query) -> Result<HtmlFound, AllocError>
     ensures { IfOk result
-        (λ found. found ≡ shows.shown library.now.records society.now kind.Search query.now) }
+        (λ found. found ≡ shows.shown lists.now.state.records lists.now.society kind.Search query.now) }
 {
     let at = page_asked(alloc, query)?;
     match query.first_value(alloc, "q")? {
-        Some(text) => show_found(alloc, library, society, text.as_str(), at),
-        None => show_found(alloc, library, society, "", at),
+        Some(text) => show_found(alloc, lists, text.as_str(), at),
+        None => show_found(alloc, lists, "", at),
     }
 }
 
 fn show_found(
     alloc: Global,
-    library: &HtmlLibrary,
-    society: &str,
+    lists: &HtmlLists,
     text: &str,
     at: Option<u32>,
 ) -> Result<HtmlFound, AllocError>
-    ensures { IfOk result (λ found. found ≡ shows.search_found library.now.records society.now text.now at) }
+    ensures { IfOk result
+        (λ found. found ≡ shows.search_found lists.now.state.records lists.now.society text.now at) }
 {
     match at {
         None => Ok(HtmlFound::NotShown),
         Some(at) => {
-            let page = search(alloc, library, society, text, at as usize)?;
+            let page = lists.search(alloc, text, at as usize)?;
             Ok(page_found(page))
         }
     }

@@ -5,3 +5,5 @@ pub mod Surnames
 pub mod Letters
 pub mod Home
 pub mod Searches
+pub mod Indexed
+pub mod Listed

@@ -17,7 +17,11 @@ use record_kinds::{Record, Source};
 use std::alloc::{AllocError, Global};
 
 /// The first page.
-pub fn home(alloc: Global, library: &HtmlLibrary, society: &str) -> Result<Words, AllocError>
+pub(crate) fn first_page(
+    alloc: Global,
+    library: &HtmlLibrary,
+    society: &str,
+) -> Result<Words, AllocError>
     ensures { IfOk result (λ page. page ≡ page_bytes (home.home_page library.now.records society.now)) }
 {
     let mut main = Parts::new(alloc);

@@ -1,82 +1,123 @@
-//! Whether a record is found by the words of a search. `searching` has the same test of a record that is listed.
+//! The names by which records are found, folded once for many searches. `searching` has the same names of a record
+//! that is listed.
 
-ghost use Rattle.std.specs.Prelude.{◌≡◌, ◌∷◌, [], IfOk, map, chars};
-ghost use Rattle.std.specs.List.{list_any};
+ghost use Rattle.std.specs.Prelude.{◌≡◌, ◌++◌, ◌∷◌, [], IfOk, OnOk, map, chars};
+ghost use Rattle.std.specs.FinMap.{get};
 ghost use Rattle.record_kinds.specs.Model as model;
 ghost use Rattle.searching.specs.Folding.{folded_name, folded_text};
-ghost use Rattle.searching.specs.Words.{all_occur};
 ghost use Rattle.searching.specs.Wanted as wants;
+ghost use Rattle.sheets.specs.Gathered.{gathered};
+ghost use Rattle.html_lists.specs.Indexed.{indexed, named, names_at as names_there};
 
+use html_pages::HtmlLibrary;
+use name_index::NameIndex;
 use record_kinds::{Mention, Name, Record};
 use record_text::Text;
-use searching::{SearchText, SearchWords};
+use searching::SearchText;
 use std::alloc::{AllocError, Global};
 
-/// Whether all words occur in one of the names of a record.
-pub(crate) fn is_named(
+/// The persons, the sources and the register entries with their names, each by number.
+pub(crate) fn index_of(alloc: Global, library: &HtmlLibrary) -> Result<NameIndex, AllocError>
+    ensures { IfOk result (λ index. index ≡ indexed (gathered library.now.records)) }
+{
+    let mut index = NameIndex::new(alloc);
+    add_all(alloc, &mut index, library, library.persons())?;
+    add_all(alloc, &mut index, library, library.sources())?;
+    add_all(alloc, &mut index, library, library.entries())?;
+    Ok(index)
+}
+
+/// Puts these records after the others.
+fn add_all(
     alloc: Global,
-    words: &SearchWords,
-    record: &Record,
-) -> Result<bool, AllocError>
-    ensures { IfOk result (λ b. b ≡ wants.is_named words.now «record».now) }
+    index: &mut NameIndex,
+    library: &HtmlLibrary,
+    numbers: &[u32],
+) -> Result<(), AllocError>
+    ensures { OnOk result (index.new ≡ index.old ++ named (gathered library.now.records) numbers.now) }
+{
+    'all: for number in numbers {
+        add_at(alloc, index, library, *number)?;
+    }
+    Ok(())
+}
+
+fn add_at(
+    alloc: Global,
+    index: &mut NameIndex,
+    library: &HtmlLibrary,
+    number: u32,
+) -> Result<(), AllocError>
+    ensures { OnOk result (index.new
+        ≡ index.old ++ (number, names_there (get library.now.records number)) ∷ []) }
+{
+    let names = names_at(alloc, library, number)?;
+    index.add(number, names)
+}
+
+/// The names of the record of a number; none where there is no record.
+fn names_at(
+    alloc: Global,
+    library: &HtmlLibrary,
+    number: u32,
+) -> Result<Vec<SearchText>, AllocError>
+    ensures { IfOk result (λ names. names.items ≡ names_there (get library.now.records number)) }
+{
+    match library.record(number) {
+        None => Ok(Vec::new(alloc)),
+        Some(record) => names_of(alloc, record),
+    }
+}
+
+/// The names by which a record is found.
+fn names_of(alloc: Global, record: &Record) -> Result<Vec<SearchText>, AllocError>
+    ensures { IfOk result (λ names. names.items ≡ wants.names_of «record».now) }
 {
     match record {
-        Record::Person(person) => is_in_names(alloc, words, &person.names),
-        Record::Entry(entry) => is_in_mentions(alloc, words, &entry.mentions),
-        Record::Place(place) => is_in_text(alloc, words, place.name.as_str()),
-        Record::Repo(repo) => is_in_option(alloc, words, &repo.name),
-        Record::Source(source) => is_in_option(alloc, words, &source.title),
-        _ => Ok(false),
+        Record::Person(person) => of_names(alloc, &person.names),
+        Record::Entry(entry) => of_mentions(alloc, &entry.mentions),
+        Record::Place(place) => of_text(alloc, place.name.as_str()),
+        Record::Repo(repo) => of_option(alloc, &repo.name),
+        Record::Source(source) => of_option(alloc, &source.title),
+        _ => Ok(Vec::new(alloc)),
     }
 }
 
-fn is_in_names(alloc: Global, words: &SearchWords, names: &[Name]) -> Result<bool, AllocError>
-    ensures { IfOk result (λ b. b ≡ list_any (all_occur words.now)
-        (map (λ (x : model.Name). folded_name (chars x.text)) names.now)) }
+fn of_names(alloc: Global, names: &[Name]) -> Result<Vec<SearchText>, AllocError>
+    ensures { IfOk result (λ texts. texts.items
+        ≡ map (λ (x : model.Name). folded_name (chars x.text)) names.now) }
 {
+    let mut texts = Vec::with_capacity(alloc, names.len())?;
     'each: for name in names {
-        if is_in_name(alloc, words, name.text.as_str())? {
-            return Ok(true);
-        }
+        texts.push(SearchText::of_name(alloc, name.text.as_str())?)?;
     }
-    Ok(false)
+    Ok(texts)
 }
 
-fn is_in_mentions(
-    alloc: Global,
-    words: &SearchWords,
-    mentions: &[Mention],
-) -> Result<bool, AllocError>
-    ensures { IfOk result (λ b. b ≡ list_any (all_occur words.now)
-        (map (λ (x : model.Mention). folded_name (chars x.name)) mentions.now)) }
+fn of_mentions(alloc: Global, mentions: &[Mention]) -> Result<Vec<SearchText>, AllocError>
+    ensures { IfOk result (λ texts. texts.items
+        ≡ map (λ (x : model.Mention). folded_name (chars x.name)) mentions.now) }
 {
+    let mut texts = Vec::with_capacity(alloc, mentions.len())?;
     'each: for mention in mentions {
-        if is_in_name(alloc, words, mention.name.as_str())? {
-            return Ok(true);
-        }
+        texts.push(SearchText::of_name(alloc, mention.name.as_str())?)?;
     }
-    Ok(false)
+    Ok(texts)
 }
 
-fn is_in_name(alloc: Global, words: &SearchWords, name: &str) -> Result<bool, AllocError>
-    ensures { IfOk result (λ b. b ≡ all_occur words.now (folded_name (chars name.now))) }
-{
-    let text = SearchText::of_name(alloc, name)?;
-    Ok(words.occur_in(&text))
-}
-
-fn is_in_text(alloc: Global, words: &SearchWords, text: &str) -> Result<bool, AllocError>
-    ensures { IfOk result (λ b. b ≡ list_any (all_occur words.now) (folded_text (chars text.now) ∷ [])) }
-{
-    let text = SearchText::of_text(alloc, text)?;
-    Ok(words.occur_in(&text))
-}
-
-fn is_in_option(alloc: Global, words: &SearchWords, text: &Option<Text>) -> Result<bool, AllocError>
-    ensures { IfOk result (λ b. b ≡ list_any (all_occur words.now) (wants.folded_option text.now)) }
+fn of_option(alloc: Global, text: &Option<Text>) -> Result<Vec<SearchText>, AllocError>
+    ensures { IfOk result (λ texts. texts.items ≡ wants.folded_option text.now) }
 {
     match text {
-        None => Ok(false),
-        Some(text) => is_in_text(alloc, words, text.as_str()),
+        None => Ok(Vec::new(alloc)),
+        Some(text) => of_text(alloc, text.as_str()),
     }
+}
+
+fn of_text(alloc: Global, text: &str) -> Result<Vec<SearchText>, AllocError>
+    ensures { IfOk result (λ texts. texts.items ≡ folded_text (chars text.now) ∷ []) }
+{
+    let mut texts = Vec::with_capacity(alloc, 1)?;
+    texts.push(SearchText::of_text(alloc, text)?)?;
+    Ok(texts)
 }

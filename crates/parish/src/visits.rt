@@ -12,6 +12,7 @@ use archive_output::{Sheet, Shelf};
 use command_line::{RoomPages, SheetKind};
 use devices::Device;
 use html_answers::HtmlRoom;
+use html_lists::HtmlLists;
 use html_pages::HtmlLibrary;
 use html_parts::Words;
 use reading_room::{Room, serve};
@@ -184,14 +185,13 @@ fn limit_of(count: u32) -> Option<u32>
 
 /// The room of HTML of what is shown, which may be asked for by a name.
 fn html_room(alloc: Global, shelf: Shelf, host: Option<String>) -> Result<HtmlRoom, AllocError>
-    ensures { IfOk result (λ room. (room.library ≡ shelf) × (room.host ≡ option_map string_bytes host)) }
+    ensures { IfOk result (λ room. (room.lists.state ≡ shelf) × (room.host ≡ option_map string_bytes host)) }
 {
     let (shown, society) = shelf.into_parts();
     let society = Words::of(alloc, society.as_str())?;
     let library = HtmlLibrary::new(alloc, shown)?;
     Ok(HtmlRoom {
-        library,
-        society,
+        lists: HtmlLists::new(alloc, library, society)?,
         host: host_words(host),
     })
 }

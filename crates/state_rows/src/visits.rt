@@ -1,12 +1,11 @@
 //! Requests to a reading room, and its answers.
 
-use crate::html::SOCIETY;
+use crate::html::lists_of;
 use crate::masked::masked_on;
 use archive_state::State;
 use devices::Counted;
 use hex::FromHexError;
 use html_answers::HtmlRoom;
-use html_pages::HtmlLibrary;
 use html_parts::Words;
 use masking::Shown;
 use reading_room::{Room, serve_one};
@@ -47,14 +46,9 @@ pub(crate) fn say_html_visit(
 }
 
 fn html_room(alloc: Global, masked: Shown) -> Result<HtmlRoom, RefusalKind> {
-    let library = HtmlLibrary::new(alloc, masked)?;
-    let society = Words::of(alloc, SOCIETY)?;
     let host = Some(Words::of(alloc, "Room.example.org")?);
-    Ok(HtmlRoom {
-        library,
-        society,
-        host,
-    })
+    let lists = lists_of(alloc, masked)?;
+    Ok(HtmlRoom { lists, host })
 }
 
 fn answer_to<A: Answering>(alloc: Global, room: &A, request: &str) -> Result<Vec<u8>, RefusalKind> {

@@ -6,7 +6,7 @@ use Rattle.html_pages.proofs.Framed.{framed_is}
 use Rattle.html_lists.specs.Home.{home_parts}
 use Rattle.html_lists.specs.Labels.{label_word}
 use Rattle.html_lists.specs.declared.label.Label.TheVariants as label
-use Rattle.html_lists.proofs.first_page.home.Goals as goal
+use Rattle.html_lists.proofs.first_page.first_page.Goals as goal
 
 pub returns : goal.returns
 returns c = some_is _ _ (framed_is c.args.society.now c.as_str.result.now (label_word label.Home) c.new-main.result
