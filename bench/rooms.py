@@ -4,7 +4,9 @@ An archive of PERSONS persons (100,000), as bench/norm.py draws them, is opened 
 (2,000), one after the other, each time by a new connection on the loopback: a person's page, a pedigree of twelve
 generations, and the page of a surname that each eighth person has. In the same run Python's http.server is asked as
 often for a file of the size of the person's page. Then the person's page is asked for MANY times (100,000), with the
-memory of the program before and after. Told are milliseconds a visit: the mean, the middle one and the longest.
+memory of the program before and after. At last a room of HTML is asked a tenth as often for its first page, for a
+person, and for searches of one letter, a name, two words, and a word that no name has. Told are milliseconds a visit:
+the mean, the middle one and the longest.
 """
 
 from __future__ import annotations
@@ -140,7 +142,13 @@ def main():
             asked(port, person)
             before = memory_of(process)
             visits(port, person, given.many)
-            print(f"\n{given.many:,} visits more: {before:.1f} MB before, {memory_of(process):.1f} MB after")
+            print(f"\n{given.many:,} visits more: {before:.1f} MB before, {memory_of(process):.1f} MB after\n")
+        with room(command, file, 0, "--html") as (process, port, opening):
+            print(f"HTML: open after {opening:.2f} s, {memory_of(process):.0f} MB\n")
+            print("| page of HTML | bytes | mean | middle | longest |\n|---|---|---|---|---|")
+            for target in ("/", person, "/search?q=a", "/search?q=lee", "/search?q=ann+lee", "/search?q=zzz"):
+                size = len(asked(port, target))
+                told(f"`{target}`", visits(port, target, max(given.visits // 10, 1)), size)
 
 
 if __name__ == "__main__":
