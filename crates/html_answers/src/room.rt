@@ -4,6 +4,7 @@ ghost use Rattle.std.specs.Prelude.{◌≡◌, IfOk, not};
 ghost use Rattle.room_requests.specs.Asked.{is_head as is_head_of};
 ghost use Rattle.html_answers.specs.Answers as answers;
 ghost use Rattle.html_answers.specs.Asked.{asked_by};
+ghost use Rattle.html_answers.specs.Replies.{refusal as refusal_of};
 
 use crate::asked::{HtmlAsked, read_request};
 use crate::replies::{Media, refusal, reply};
@@ -32,18 +33,28 @@ impl Answering for HtmlRoom {
     fn answer(&self, alloc: Global, shown: HeadRead) -> Result<Vec<u8>, AllocError> {
         match shown {
             HeadRead::Nothing => Ok(Vec::new(alloc)),
-            HeadRead::Malformed => {
-                refusal(alloc, self.lists.society(), StatusCode::BAD_REQUEST, true)
-            }
-            HeadRead::TooLarge => refusal(
+            HeadRead::Malformed => refuse(alloc, &self.lists, StatusCode::BAD_REQUEST, true),
+            HeadRead::TooLarge => refuse(
                 alloc,
-                self.lists.society(),
+                &self.lists,
                 StatusCode::REQUEST_HEADER_FIELDS_TOO_LARGE,
                 true,
             ),
             HeadRead::Whole(head) => answer_head(alloc, self, &head),
         }
     }
+}
+
+/// What the room of a society refuses a request with.
+fn refuse(
+    alloc: Global,
+    lists: &HtmlLists,
+    status: StatusCode,
+    with_page: bool,
+) -> Result<Vec<u8>, AllocError>
+    ensures { IfOk result (λ bytes. bytes.items ≡ refusal_of lists.now.society status with_page) }
+{
+    refusal(alloc, lists.society(), status, with_page)
 }
 
 /// The answer to a whole head.
@@ -53,7 +64,7 @@ fn answer_head(alloc: Global, room: &HtmlRoom, head: &Head) -> Result<Vec<u8>, A
 {
     let with_page = !is_head(head);
     match read_request(alloc, &room.host, head)? {
-        HtmlAsked::Refused(status) => refusal(alloc, room.lists.society(), status, with_page),
+        HtmlAsked::Refused(status) => refuse(alloc, &room.lists, status, with_page),
         HtmlAsked::Page { page, query } => {
             let found = show(alloc, &room.lists, page, &query)?;
             answer_page(alloc, room.lists.society(), &found, with_page)
