@@ -25,12 +25,12 @@ GENERATOR = os.path.join(ROOT, "tests", "requests", "generate.py")
 # refused; a merge and its undoing, a batch and an import keep nothing.
 MENDED = (
     "p1,person,Ann /Lee/,", "p2,person,Tom /Ray/,M", "f,family,,1", "c,child,3,2", "e,event,1,BIRT,,1700,",
-    "w,participant,5,2,", "l,place,Kent,", "s,source,Deeds,,,,", "r,entry,7,BAPTISM,f. 1,1,,,,child,Ann",
+    "w,participant,4,2,", "l,place,Kent,", "s,source,Deeds,,,,", "r,entry,6,BAPTISM,f. 1,1,,,,child,Ann",
     "k1,sex,1,F", "k1,sex,1,F", "k2,sex,1,F", "k3,correct,1,name 1,Anne /Lee/", "k4,correct,1,name 1,Anne /Lee/",
-    "k5,amend,5,,1701,", "k6,amend,5,,1701,", "k7,link,9,1,1,same name", "k8,link,9,1,1,same name", "k9,unlink,9,1",
-    "l1,unparticipant,5,1", "l2,unchild,3,2", "l3,unpartner,3,1", "l4,unpartner,3,1", "l5,correct,9,page,f. 2",
-    "l6,correct,6,name,Surrey", "l7,correct,8,page,", "m,merge,1,2", "u,undo,10", "l8,remove,5", "l9,remove,7",
-    "n1,correct,3,name,x", "n2,name,1,Nan", "n3,correct,1,name 2,", "n4,remove,1",
+    "k5,amend,4,,1701,", "k6,amend,4,,1701,", "k7,link,7,1,1,same name", "k8,link,7,1,1,same name", "k9,unlink,7,1",
+    "l1,unparticipant,4,1", "l2,unchild,3,2", "l3,unpartner,3,1", "l4,unpartner,3,1", "l5,correct,7,page,f. 2",
+    "l6,correct,5,name,Surrey", "m,merge,1,2", "u,undo,8", "l7,remove,4", "l8,remove,6", "n1,correct,3,name,x",
+    "n2,name,1,Nan", "n3,correct,1,name 2,", "n4,remove,1",
 )
 
 
@@ -81,7 +81,7 @@ def batches_imports_and_exports_keep_nothing(tools: Tools) -> None:
     with Folder(tools) as at, Folder(tools) as other:
         at.made().apply(lines(MENDED))
         kept = at.rows_of(PAST)
-        run(tools.parish, ("entries", at.file, "--source", "7", "--token", "b"), b"BAPTISM,f. 9,1,,,,child,Ann\n")
+        run(tools.parish, ("entries", at.file, "--source", "6", "--token", "b"), b"BAPTISM,f. 9,1,,,,child,Ann\n")
         exported = run(tools.parish, ("export", at.file)).out
         run(tools.parish, ("import", at.file, "--token", "i"), exported)
         demand(at.rows_of(PAST) == kept, "a batch or an import changed the table")
@@ -92,7 +92,7 @@ def batches_imports_and_exports_keep_nothing(tools: Tools) -> None:
 
 def cases(tools: Tools) -> Iterator[Case]:
     mended = [f"{row}\n".encode() for row in MENDED]
-    yield Case("values of before: each verb", lambda: each_row_keeps_what_it_overwrites(tools, mended, 15))
+    yield Case("values of before: each verb", lambda: each_row_keeps_what_it_overwrites(tools, mended, 13))
     for seed in SEEDS:
         name = f"values of before: drawn rows, {seed}"
         yield Case(name, lambda seed=seed: each_row_keeps_what_it_overwrites(tools, drawn(seed), 5))
