@@ -193,14 +193,18 @@ def breaks_of_lines_in_texts(tools):
 
 
 def what_was_before(tools):
-    """`past` is made with a new archive, and empty; what somebody else writes there is not looked at, and stays."""
+    """`past` is made with a new archive, and empty; what somebody else writes there is not looked at, and stays, and
+    what a row removes comes after it."""
     with Folder(tools) as at:
         at.made().apply(b"a,person,Ann,F\nb,name,1,Anna\n")
         demand(at.rows_of("SELECT * FROM past") == [], "it is not empty")
         at.other_database("INSERT INTO past VALUES (7, 9, 't', 'no lines at all'), (8, -1, '', '')")
         answered(at.apply(b"c,name,1,Annie\nd,remove,1\n"), b"c,ok,0,0\nd,ok,0,0\n")
         expect(run(at.parish, ("audit", at.file)), written(b"sound: 0 records\n"))
-        demand(at.rows_of("SELECT id FROM past ORDER BY id") == [(7,), (8,)], "its rows are others")
+        removed = "0 person\n1 name Ann\n1 name Anna\n1 name Annie\n1 sex F\n"
+        wanted = [(7, 9, "t", "no lines at all"), (8, -1, "", ""), (9, 1, "d", removed)]
+        kept = at.rows_of("SELECT id, no, token, text FROM past ORDER BY id")
+        demand(kept == wanted, f"its rows are {kept}")
 
 
 def rows_that_are_no_requests(tools):
