@@ -58,11 +58,12 @@ def a_citation_of_a_person(tools):
 
 
 def rows_that_mean_nothing(tools):
-    """Rows of `past`, and links that no record has: nothing is reported of them, and nothing else is read."""
+    """Rows of `past`, and links that no record has: nothing is reported of them, nothing else is read, and they stay."""
     with Audited(tools) as at:
         exported = at.of_pairs().export()
         with Tables(at.file) as tables:
-            tables.run("INSERT INTO past VALUES (1, 5, 'e', '0 person'), (3, 4294967295, '', 'a\rb'), (9, 0, 'x', '')")
+            rows = "(91, 5, 'e', '0 person'), (93, 4294967295, '', 'a\rb'), (99, 0, 'x', '')"
+            tables.run(f"INSERT INTO past VALUES {rows}")
             for key in (link_of(5, 20), link_of(99, 7), link_of(5, 99), link_of(0, 0), link_of(4294967295, 4294967295)):
                 tables.run("INSERT INTO link VALUES (?)", key)
         before = at.tables()
@@ -71,7 +72,9 @@ def rows_that_mean_nothing(tools):
         answers = at.apply(b"z1,remove,99\nz2,remove,7\nz3,remove,20\n").out
         demand(answers == b"z1,refused,50,NoSuch\nz2,refused,53,StillNamed\nz3,ok,0,0\n", f"{answers!r}")
         after = at.tables()
-        demand(after["past"] == before["past"] and after["link"] == before["link"], "rows of others went")
+        *others, removed = after["past"]
+        demand(others == before["past"] and after["link"] == before["link"], "rows of others went")
+        demand(removed[:3] == (100, 20, "z3"), f"what was removed is kept as {removed}")
         expect(at.audit(), sound(RECORDS - 1))
 
 
