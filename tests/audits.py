@@ -58,7 +58,7 @@ def a_citation_of_a_person(tools):
 
 
 def rows_that_mean_nothing(tools):
-    """Rows of `past`, and links that no record has: nothing is reported of them, nothing else is read, and they stay."""
+    """Rows of `past`, and links that no record has: nothing is reported of them, all else is read, and they stay."""
     with Audited(tools) as at:
         exported = at.of_pairs().export()
         with Tables(at.file) as tables:
