@@ -27,7 +27,7 @@ PLACES = ["Kent", "Ashby", "Mill Lane, Ashby", "\u00e9, \u4e2d", "two\nlines", "
 DEEPEST = 8  # places within each other, so that no path passes the limits
 
 # The kinds of the fields of each verb: number, text, sex, tag, date, quality, place's name, kind of an entry, item,
-# place of a mention or of a participant, reason, role of a partner, or field of a record, behind which comes its value.
+# place of a mention or of a participant, reason, role of a partner, or field of a record, after which comes its value.
 # Behind those of an entry come a role and a text for each mention.
 KINDS = {
     "person": "TS",
@@ -56,7 +56,7 @@ KINDS = {
 }
 OF_MENTION = "RT"
 # The fields of each kind of record that can be corrected, and the kind of the value of each. Behind `name` of a person
-# and of an entry, and behind `role`, comes a place in its list.
+# and of an entry, and after `role`, comes a place in its list.
 CORRECTED = {
     "person": ("sex", "name K"),
     "event": ("tag", "value", "date", "place"),
