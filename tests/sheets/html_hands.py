@@ -93,16 +93,17 @@ PAGES_OF_LONG = tuple(
 )
 OF_LEES = LEE_FAMILY
 
-# Surnames by letter: of the search key, written as the last name has them, and without a letter at the end.
+# Surnames by letter: of the search key, written as the last name has them, and without a letter at the end; there also
+# persons without any name.
 NAMED = (
     ("Ann /Örtli/", "Ann /ORTLI/"), ("Tom /o’Neil/",), ("Eva /van der Berg/",), ("Eva",),
-    ("Jo /VAN DER BERG/", "Jo /Van der Berg/"), ("Al /1st/",), ("X /?/",), ("И. /Яков/",),
+    ("Jo /VAN DER BERG/", "Jo /Van der Berg/"), ("Al /1st/",), ("X /?/",), ("И. /Яков/",), (),
 )
 LETTERS = {number: Person(names) for number, names in enumerate(NAMED, 1)}
 LETTERS |= {number + 10: Event(number, "DEAT") for number in LETTERS}
 OF_LETTERS = page("Reading room", (
     f"<h1>{SOCIETY}</h1>" + FORM.format("")
-    + "<ul><li>Persons: 8</li><li>Families: 0</li><li>Registers: 0</li></ul>"
+    + "<ul><li>Persons: 9</li><li>Families: 0</li><li>Registers: 0</li></ul>"
     + "<section><h2>Surnames</h2><ul>"
     + '<li>1<ul><li><a href="/surname?name=1st">1st</a>: 1</li></ul></li>'
     + '<li>O<ul><li><a href="/surname?name=ORTLI">ORTLI</a>: 1</li>'
@@ -110,6 +111,10 @@ OF_LETTERS = page("Reading room", (
     + '<li><a href="/surname?name=%C3%96rtli">Örtli</a>: 1</li></ul></li>'
     + '<li>V<ul><li><a href="/surname?name=Van+der+Berg">Van der Berg</a>: 2</li></ul></li>'
     + '<li>я<ul><li><a href="/surname?name=%D0%AF%D0%BA%D0%BE%D0%B2">Яков</a>: 1</li></ul></li>'
-    + '<li>?<ul><li><a href="/surname?name=">?</a>: 1</li><li><a href="/surname?name=%3F">?</a>: 1</li></ul></li>'
+    + '<li>?<ul><li><a href="/surname?name=">?</a>: 2</li><li><a href="/surname?name=%3F">?</a>: 1</li></ul></li>'
     + "</ul></section>"
+))
+OF_NO_SURNAME = page("?", (
+    '<h1>?</h1><p class="note">Persons: 2</p>'
+    + f'<ul><li><a href="/person/4">Eva</a></li><li><a href="/person/9">?</a></li></ul>{ONE_PAGE}'
 ))

@@ -185,11 +185,16 @@ class Pages:
         head = element("h1", text(title)) + note(f"Register {number}. Entries: {len(entries)}")
         return framed(title, head + listed)
 
+    @staticmethod
+    def surnames_of(person: Person) -> list[str]:
+        """Those of the names of a person; one that is empty where there is no name."""
+        return [surname(name) for name in person.names] or [""]
+
     def called(self, of: str) -> list[int]:
         return [
             number
             for number, person in self.sheets.of(Person)
-            if any(surname(name).casefold() == of.casefold() for name in person.names)
+            if of.casefold() in (name.casefold() for name in self.surnames_of(person))
         ]
 
     @staticmethod
@@ -207,7 +212,7 @@ class Pages:
         """A list for each letter: the first of the search keys of its surnames; the last one of those without a key."""
         written = {}
         for _, person in self.sheets.of(Person):
-            for of in map(surname, person.names):
+            for of in self.surnames_of(person):
                 letter = (keys.words(of) or [LAST])[0][0]
                 written[letter, of.casefold()] = of
         lists = {}

@@ -21,7 +21,7 @@ import html_visits  # noqa: E402
 from asking import answers, differences, given_to  # noqa: E402
 from by_requests import MARRIAGES, SHOWN, VISITS, Visits, not_shown  # noqa: E402
 from heads import Heads  # noqa: E402
-from html_hands import BY_HAND, LETTERS, LONG, OF_LEES, OF_LETTERS, PAGES_OF_LONG  # noqa: E402
+from html_hands import BY_HAND, LETTERS, LONG, OF_LEES, OF_LETTERS, OF_NO_SURNAME, PAGES_OF_LONG  # noqa: E402
 from html_rules import Pages  # noqa: E402
 from memory import REFUSED, fault  # noqa: E402
 from plain import Family, Person, Source, lines  # noqa: E402
@@ -60,7 +60,8 @@ def html(pages: Pages, kind: str, of, page: int) -> Ask:
 def pages_by_hand():
     asks = [Ask(row("html", TODAY, *words), wanted) for words, wanted in BY_HAND]
     yield Case("pages of HTML by hand", (*stored(OF_LEES), *asks))
-    yield Case("surnames by letter by hand", (*stored(LETTERS), Ask(row("html", TODAY, "home"), OF_LETTERS)))
+    asks = (Ask(row("html", TODAY, "home"), OF_LETTERS), Ask(row("html", TODAY, "surname", "", 1), OF_NO_SURNAME))
+    yield Case("surnames by letter by hand", (*stored(LETTERS), *asks))
     pages = Pages(LONG)
     yield Case("long lists in HTML", (*stored(LONG), *(html(pages, *asked) for asked in PAGES_OF_LONG)))
     for name, records in (("by hand", OF_LEES), ("of long lists", LONG)):

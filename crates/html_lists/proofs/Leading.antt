@@ -24,7 +24,6 @@ use Rattle.record_kinds.specs.Model as model
 use Rattle.record_kinds.specs.declared.record.Record.{Record}
 use Rattle.record_kinds.specs.declared.record.Record.TheVariants as kind
 use Rattle.archive_state.specs.Content.{Records}
-use Rattle.record_text.specs.Naming.{key_of}
 use Rattle.sheet_lines.specs.Lines.{title_words}
 use Rattle.sheets.specs.Gathered.{Gathered, gathered}
 use Rattle.html_text.specs.declared.names.Element.TheVariants as element
@@ -290,7 +289,7 @@ surname_in_leads g society of page numbers = on_pages g.at
 
 pub surname_leads : (m : Records) (society of : List ℕ) (page : ℕ)
     → IfSome (surname_page m society of page) (LeadToShown (get m))
-surname_leads m society of page = surname_in_leads (gathered m) society of page (called (gathered m) (key_of of))
+surname_leads m society of page = surname_in_leads (gathered m) society of page (called (gathered m) of)
 
 -- ---- searches
 found_leads : (g : Gathered) (n : ℕ) (r : Option Record) → g.at n ≡ r → LeadToShown g.at (found_item g n r)

@@ -59,9 +59,14 @@ abbrev pub order_of : List ℕ → List ℕ
 order_of surname = encode_utf8 (placed (letter_of surname)) ++ key_of surname
 
 -- ---- surnames
--- those of the names of a person; of another record none
+-- those of these names; an empty one where there is no name
+abbrev pub surnames_among : List model.Name → List (List ℕ)
+surnames_among [] = [] ∷ []
+surnames_among (x ∷ xs) = map (λ (y : model.Name). surname_of y.text) (x ∷ xs)
+
+-- those of a person; of another record none
 abbrev pub surnames_of : Option Record → List (List ℕ)
-surnames_of (Some (kind.Person p)) = map (λ (x : model.Name). surname_of x.text) p.names
+surnames_of (Some (kind.Person p)) = surnames_among p.names
 surnames_of _ = []
 
 -- those of all persons
@@ -90,7 +95,7 @@ counted_item surname count = part.Start element.Li ∷ (link_parts (route.Surnam
     ++ part.Words (codes ": ") ∷ part.Words (decimal count) ∷ part.End element.Li ∷ [])
 
 abbrev pub surname_item : Gathered → List ℕ → List Part
-surname_item g surname = counted_item surname (length (called g (key_of surname)))
+surname_item g surname = counted_item surname (length (called g surname))
 
 -- the list of a letter, of which those of ASCII are capitals, begins and ends
 abbrev pub begin_parts : ℕ → List Part

@@ -1,7 +1,6 @@
 -- The pages of a surname: rules of our own. None outside of the pages.
 use Rattle.std.specs.Prelude.{ℕ, List, [], ◌∷◌, ◌++◌, length, codes, decimal, option_map, Option}
 use Rattle.std.specs.List.{flat_map}
-use Rattle.record_text.specs.Naming.{key_of}
 use Rattle.archive_state.specs.Content.{Records}
 use Rattle.sheets.specs.Gathered.{Gathered, gathered}
 use Rattle.html_text.specs.declared.names.Element.TheVariants as element
@@ -42,4 +41,4 @@ surname_in society g of page numbers = option_map
     (λ shown. frame_parts society (titled of) (surname_parts g of page (length numbers) shown)) (page_of page numbers)
 
 abbrev pub surname_page : Records → List ℕ → List ℕ → ℕ → Option (List Part)
-surname_page m society of page = surname_in society (gathered m) of page (called (gathered m) (key_of of))
+surname_page m society of page = surname_in society (gathered m) of page (called (gathered m) of)

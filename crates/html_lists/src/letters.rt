@@ -73,9 +73,24 @@ fn add_person(
         (letters.surnames_of (get library.now.records number))) }
 {
     match library.record(number) {
-        Some(Record::Person(person)) => add_names(alloc, found, &person.names),
+        Some(Record::Person(person)) => add_surnames(alloc, found, &person.names),
         _ => Ok(()),
     }
+}
+
+/// Adds the surname of each name, and an empty one where there is no name.
+fn add_surnames(
+    alloc: Global,
+    found: &mut BTreeMap<String, String>,
+    names: &[Name],
+) -> Result<(), AllocError>
+    ensures { OnOk result (letters.texts found.new
+        ≡ fold letters.with_surname (letters.texts found.old) (letters.surnames_among names.now)) }
+{
+    if names.is_empty() {
+        return add_surname(alloc, found, "");
+    }
+    add_names(alloc, found, names)
 }
 
 fn add_names(

@@ -14,7 +14,8 @@ use html_text::Element;
 use std::alloc::{AllocError, Global};
 
 /// A page, from 1 on, of the persons one of whose names has a surname with the key of that one, by number. An empty
-/// surname is that of all names without one, as of every living person. `None`: there is no such page.
+/// surname is that of all names without one, as of every living person, and of persons without any name. `None`: there
+/// is no such page.
 pub fn surname(
     alloc: Global,
     library: &HtmlLibrary,

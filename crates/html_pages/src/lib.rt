@@ -3,7 +3,8 @@
 //! It uses `masking`, whose masked state is all that it can see, `gedcom_export` for what belongs to a record, and
 //! `html_parts` for what a page is made of.
 //!
-//! - `library`: a masked state with its index, what belongs to each record of it, and the pages of it.
+//! - `library`, `called`: a masked state with its index, what belongs to each record of it, and the pages of it; the
+//!   persons without a surname.
 //! - `framing`, `label`, `links`, `listing`: what all pages have: their frame, words, links, and sections with lists.
 //! - `events`, `families`, `mentions`, `pedigrees`, `persons`: the pages, and what their lists show, each as parts that
 //!   are appended.
@@ -13,6 +14,7 @@
 //! `AllocError` comes only where memory was refused.
 #![tactic(auto)]
 
+mod called;
 mod events;
 mod families;
 mod framing;

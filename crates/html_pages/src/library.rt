@@ -6,7 +6,6 @@ ghost use Rattle.std.specs.FinMap as map;
 ghost use Rattle.gedcom_export.specs.Index.{IsArranged, IsIndexOf};
 ghost use Rattle.gedcom_export.specs.declared.index_owned.Owned as owned;
 ghost use Rattle.gedcom_export.specs.declared.membership.Membership as membership;
-ghost use Rattle.record_text.specs.Naming.{key_of};
 ghost use Rattle.sheets.specs.Gathered.{gathered};
 ghost use Rattle.sheets.specs.Pedigrees as ancestors;
 ghost use Rattle.html_parts.specs.Parts.{page_bytes};
@@ -14,6 +13,7 @@ ghost use Rattle.html_pages.specs.Called as called;
 ghost use Rattle.html_pages.specs.Pages as pages;
 ghost use Rattle.html_pages.specs.Pedigrees as tree;
 
+use crate::called::persons_without_surname;
 use crate::{families, pedigrees, persons};
 use gedcom_export::{Index, Membership, Owned, Rank};
 use html_parts::Words;
@@ -26,12 +26,13 @@ use sheets::{Generations, ancestor_words, parent_of, surnames_of};
 use std::alloc::{AllocError, Global};
 use std::marker::Model;
 
-/// A masked state with the index of its records and that of their surnames, which are made once for many pages.
-/// Contracts see the masked state.
+/// A masked state with the index of its records and that of their surnames, and the persons without one, which are made
+/// once for many pages. Contracts see the masked state.
 pub struct HtmlLibrary {
     shown: Shown,
     index: Index,
     surnames: SurnameIndex,
+    without_surname: Vec<u32>,
 }
 
 // It is written out, so that no function above proves again how each part is dropped.
@@ -41,6 +42,7 @@ impl Drop for HtmlLibrary {
             shown: _,
             index: _,
             surnames: _,
+            without_surname: _,
         } = self;
     }
 }
@@ -51,7 +53,10 @@ impl Model for HtmlLibrary {
     ghost use Rattle.stored_lines.specs.Line.{lines_code, value_code};
     ghost use Rattle.archive_state.specs.Content as content;
     ghost use Rattle.gedcom_export.specs.Index.{IsArranged, IsIndexOf};
+    ghost use Rattle.std.specs.Prelude.{◌≡◌, []};
     ghost use Rattle.sheets.specs.Called.{AreCalled};
+    ghost use Rattle.sheets.specs.Gathered.{gathered};
+    ghost use Rattle.html_pages.specs.Called.{called};
 
     ghost Value = { content.Content };
 
@@ -60,7 +65,8 @@ impl Model for HtmlLibrary {
     ghost view = { λ a. a.shown };
 
     ghost invariant = { λ a. IsArranged a.index × IsIndexOf (map.entries a.shown.records) a.index
-        × AreCalled a.shown.records a.surnames };
+        × AreCalled a.shown.records a.surnames
+        × (a.without_surname.items ≡ called (gathered a.shown.records) []) };
 }
 
 impl HtmlLibrary {
@@ -70,10 +76,12 @@ impl HtmlLibrary {
     {
         let index = index_of(alloc, &shown)?;
         let surnames = surnames_of(alloc, &shown, &index)?;
+        let without_surname = persons_without_surname(alloc, &shown, &index)?;
         Ok(HtmlLibrary {
             shown,
             index,
             surnames,
+            without_surname,
         })
     }
 
@@ -195,11 +203,15 @@ impl HtmlLibrary {
         families_of(alloc, self.index.partner_in(person))
     }
 
-    /// The numbers of the persons one of whose names has a surname with the key of that one, ascending.
+    /// The numbers of the persons one of whose names has a surname with the key of that one, ascending; of an empty one
+    /// those of the persons without any name too.
     pub fn called(&self, alloc: Global, surname: &str) -> Result<&[u32], AllocError>
-        ensures { IfOk result (λ numbers. numbers.now
-            ≡ called.called (gathered self.now.records) (key_of surname.now)) }
+        ensures { IfOk result
+            (λ numbers. numbers.now ≡ called.called (gathered self.now.records) surname.now) }
     {
+        if surname.is_empty() {
+            return Ok(self.without_surname.as_slice());
+        }
         self.surnames.persons(alloc, surname)
     }
 
