@@ -188,6 +188,25 @@ def an_edit_that_is_proved_is_not_refused(_room):
     demand(rt_ci.refused_kinds(SimpleNamespace()) == (True,), "older kits answer True and False")
 
 
+def add_edits_of_kit(tasks, crate, edits):
+    """Adds tasks as the kit does: before two edits a check of the crate as it stands."""
+    for number, edit in enumerate(edits):
+        tasks[crate.name, "edits", number] = f"try {edit}"
+    if len(edits) > 1:
+        tasks[crate.name, "seed"] = "check"
+    return lambda given: [given[crate.name, "edits", it] for it in range(len(edits))], lambda: {0: f"known {edits[0]}"}
+
+
+def each_edit_is_tried_by_itself(_room):
+    tasks: dict = {}
+    found, known = rt_ci.each_by_itself(add_edits_of_kit)(tasks, library("", "a"), ["one", "two"])
+    wanted = {("register", "edits", 0): "try one", ("register", "edits", 1): "try two"}
+    demand(tasks == wanted, f"the tasks are {tasks}")
+    given = {("register", "edits", 0): "one refused", ("register", "edits", 1): "two refused"}
+    demand(found(given) == ["one refused", "two refused"], f"their results are {found(given)}")
+    demand(known() == {0: "known one", 1: "known two"}, f"known from earlier runs are {known()}")
+
+
 TESTS = (
     ("takes a proof of the same sum", the_same_is_taken),
     ("proves what has another source, kit or HANDLES", what_differs_is_proved),
@@ -198,6 +217,7 @@ TESTS = (
     ("takes an edit by its text and sources", an_edit_is_taken_by_its_text),
     ("counts a refused edit as the kit does", a_refused_edit_is_one_of_the_kits_kinds),
     ("counts an edit that is proved as none refused", an_edit_that_is_proved_is_not_refused),
+    ("tries two edits of a crate each by itself", each_edit_is_tried_by_itself),
 )
 
 

@@ -11,8 +11,9 @@ Each proof, run and test is that of `rt ci`, and so is its status; an `rt` that 
   (rattle-kit-13b) also to know what they are made from: there are 5.1 million ways here, and to read the sources on
   each is about two hours of one processor. Both answers depend only on crates.txt and the sources, so they are
   remembered; the run fails where one of these files differs at its end from what it was at its beginning.
-- It tries an edit by a check of the whole crate. Here the function that the edit changes is checked first, with what
-  it calls (`--only`): if that is not proved, the crate is not. Any other edit is tried as by `rt ci`.
+- It tries an edit by a check of the whole crate, and before two edits of one crate it checks the crate once more. Here
+  the function that the edit changes is checked first, with what it calls (`--only`), each edit by itself: if that is
+  not proved, the crate is not. Any other edit is tried as by `rt ci`.
 - It expects a check of a large crate to take two to four times the memory that was measured, and lets processors
   wait for it. Here it expects half of that, and 0.5 GB.
 """
@@ -125,6 +126,25 @@ def tried(module, store: KeptProofs | None = None):
     return must_fail
 
 
+def each_by_itself(add_edits):
+    """How a kit that checks a crate once more before two edits of it tries each as the only one, without that check."""
+
+    def add(tasks, crate, edits, *given, **named):
+        results, known = [], []
+        for number, edit in enumerate(edits):
+            own: dict = {}
+            of_this, known_of_this = add_edits(own, crate, [edit], *given, **named)
+            (key,) = own
+            tasks[crate.name, "edits", number] = own[key]
+            results.append((key, of_this))
+            known.append(known_of_this)
+        at = lambda given, key, number: {key: given[crate.name, "edits", number]}
+        found = lambda given: [it for number, (key, of) in enumerate(results) for it in of(at(given, key, number))]
+        return found, lambda: {number: it for number, of in enumerate(known) for it in of().values()}
+
+    return add
+
+
 def is_unchanged(crate) -> bool:
     """Whether the crate and each library below it are still as they were when their sums were worked out."""
     stamp = type(crate).stamp.__wrapped__
@@ -182,6 +202,8 @@ def main() -> int:
     crate.below, crate.stamp = remembered(crate.below), remembered(crate.stamp)
     store = kept_by(module, os.getcwd())
     module.must_fail_all = lambda crate, edits, flags: [module.must_fail(crate, it, flags) for it in edits]
+    if hasattr(module, "add_edits"):
+        module.add_edits = each_by_itself(module.add_edits)
     need = module.need
     module.need = lambda crate: need(crate) / 2 + 500_000_000
     before = sources()
