@@ -1,5 +1,5 @@
 -- Rows of `apply`, without their tokens: rules of our own.
-use Rattle.std.specs.Prelude.{ℕ, Bool, if◌then◌else◌, List, [], ◌∷◌, bytes_eq, codes, decimal, Option, Some, None}
+use Rattle.std.specs.Prelude.{ℕ, if◌then◌else◌, List, [], ◌∷◌, bytes_eq, codes, decimal, Option, Some, None}
 use Rattle.record_fields.specs.declared.date.Date.{Date}
 
 abbrev pub Cells : Type 0

@@ -1,5 +1,5 @@
 -- What is put back of places, repositories, sources and citations: rules of our own.
-use Rattle.std.specs.Prelude.{ℕ, List, [], ◌∷◌, ◌++◌, codes, decimal, Option, Some, None}
+use Rattle.std.specs.Prelude.{ℕ, List, [], ◌∷◌, ◌++◌, codes, Option, Some, None}
 use Rattle.record_fields.specs.Words.{quality_word}
 use Rattle.record_fields.specs.declared.words.Quality.{Quality}
 use Rattle.record_kinds.specs.Model as model

@@ -13,7 +13,8 @@ use record_kinds::Record;
 use std::alloc::{AllocError, Global};
 
 /// The rows by which the record of a number gets the fields, members and links that it had before. What came later
-/// stays: a name, a member. No row puts back carried lines, the order of members, or an empty name.
+/// stays: a name, a member. No row puts back carried lines, the order of members, an empty name, or that a title or the
+/// name of a repository was missing.
 pub fn rows_back(
     alloc: Global,
     number: u32,

@@ -6,8 +6,9 @@
 //! - `persons`, `families`, `events`, `sources`, `entries`: what is put back of each kind of record.
 //! - `back`: of a record.
 //!
-//! Callers may rely on: there is a row for each field, member and link that was there before and is another now, or is
-//! missing, and none for what is the same; nothing is put back that was not there before.
+//! Callers may rely on: the rows are those of the definition. What came later stays, and some of what was there before
+//! no row puts back: carried lines, the order of members, an empty name, that a title or the name of a repository was
+//! missing.
 #![tactic(auto)]
 
 mod back;
