@@ -1,4 +1,4 @@
-"""Times `parish list`, `find` and `show` beside `sqlite3` and `grep`: python3 bench/finding.py [PERSONS..].
+"""Times `parish list`, `find`, `show` and `history` beside `sqlite3` and `grep`: python3 bench/finding.py [PERSONS..].
 
 The archive is that of bench/export.py: of PERSONS persons (100,000) with a birth and a citation each. Printed are wall
 and processor time and the most memory of the fastest of three runs: of an opening (`apply` without rows), of each
@@ -37,7 +37,7 @@ def main():
             opened = row("opening", [PARISH, "apply", file])
             for words in (
                 "list FILE sources", "list FILE persons --limit 100", "list FILE persons", "find FILE wat",
-                "find FILE zoe lee --limit 100", "find FILE zoe lee", "show FILE 3", "show FILE 1",
+                "find FILE zoe lee --limit 100", "find FILE zoe lee", "show FILE 3", "show FILE 1", "history FILE 3",
             ):
                 command = [file if word == "FILE" else word for word in shlex.split(words)]
                 row("parish " + words.replace(" FILE", ""), [PARISH, *command], opened)

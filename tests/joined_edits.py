@@ -5,10 +5,10 @@
 What a function has to show follows from its own body and from the contracts of what it calls. So an edit within
 the body of a function changes the goals of that function only, and a check of a copy in which each of several
 functions has an edit refuses each of them on its own: an edit counts as refused only if a goal of its own
-function is not proved. Edits of one function are tried in turns, an edit that changes more than one body is
-tried as the gate does (rt_ci.py), and so is one that no turn decided (a function is not looked at while what it
-calls is not proved). `--gate` takes those of the crates' folders must-fail too. Each crate has a line at its end; the
-last line is `N passed, M failed`.
+function is not proved. Only these functions are checked, with what they call (`--only`). Edits of one function are
+tried in turns, an edit that changes more than one body is tried as the gate does (rt_ci.py), and so is one that no
+turn decided (a function is not looked at while what it calls is not proved). `--gate` takes those of the crates'
+folders must-fail too. Each crate has a line at its end; the last line is `N passed, M failed`.
 
 Libraries below the crates are those that the gate keeps, or are proved first.
 """
@@ -16,6 +16,7 @@ Libraries below the crates are those that the gate keeps, or are proved first.
 from __future__ import annotations
 
 import copy
+import functools
 import os
 import re
 import shutil
@@ -27,7 +28,7 @@ from dataclasses import dataclass
 
 import edits as alone
 import rt_ci
-from changed_functions import bodies
+from changed_functions import bodies, changed_function
 
 sys.dont_write_bytecode = True
 NAMES = re.compile(r"has no field|is not in scope|has no `|was not admitted")
@@ -36,11 +37,15 @@ TURNS = 8
 
 @dataclass(frozen=True)
 class Edit:
-    """An edit within the body of one function: the pairs of texts, and the lines of that function, from 1."""
+    """An edit within the body of one function: the pairs of texts, and the lines of that function, from 1.
+
+    `path` is that of the function below the crate.
+    """
 
     name: str
     file: str
     function: str
+    path: str
     first: int
     last: int
     pairs: tuple
@@ -76,10 +81,12 @@ def placed(path: str, folder: str) -> Edit | None:
         text = source.read()
     if any(text.count(old) != 1 for old, _ in pairs):
         return None
+    edited = functools.reduce(lambda now, pair: now.replace(*pair), pairs, text)
+    function = changed_function({file: edited}, folder)
     rows = [text[: text.index(old)].count("\n") + 1 for old, _ in pairs]
     for name, first, body, last in bodies(text):
-        if all(body <= row < last and (row > body or first == body) for row in rows):
-            return Edit(os.path.basename(path), file, name, first, last, pairs)
+        if function and all(body <= row < last and (row > body or first == body) for row in rows):
+            return Edit(os.path.basename(path), file, name, function, first, last, pairs)
     return None
 
 
@@ -116,19 +123,24 @@ def goal_of(edit: Edit, said: str) -> str | None:
 class Trial:
     """One crate whose edits are tried."""
 
-    def __init__(self, module, crate, jobs: int, kept: str):
-        self.module, self.crate, self.jobs, self.kept = module, crate, jobs, kept
+    def __init__(self, module, crate, jobs: int):
+        self.module, self.crate, self.jobs = module, crate, jobs
 
     def check(self, edits: list[Edit]):
-        """What the prover says of the crate with these edits, or None if it could not be read."""
+        """What the prover says of the functions of these edits; None if the crate cannot be read with them at once."""
         with tempfile.TemporaryDirectory(prefix="parish-joined-") as room:
-            put(edits, self.crate.folder, room)
-            words = [*self.crate.words(["--jobs", str(self.jobs)], keeps=False), "--incremental", self.kept]
+            try:
+                put(edits, self.crate.folder, room)
+            except ValueError:
+                # (one of them has the text that another changes)
+                return None
+            only = [it for path in sorted({edit.path for edit in edits}) for it in ("--only", path)]
+            words = [*self.crate.words(["--jobs", str(self.jobs)], keeps=False), *only]
             how = {"cwd": room, "stdin": subprocess.DEVNULL, "stdout": subprocess.PIPE, "stderr": subprocess.STDOUT}
             rtlib = self.module.rtlib
             ran = subprocess.run([*rtlib.guarded(), rtlib.RATTLE, "check", *words], errors="replace", **how)
             last = ran.stdout.rstrip("\n").split("\n")[-1]
-            return ran.stdout if last.startswith("logic=") else None
+            return ran.stdout if last.startswith("only=") else None
 
     def decided(self, edits: list[Edit]):
         """Which of these edits, each of a function of its own, are refused, each with the goal that stops it."""
@@ -161,8 +173,7 @@ def try_crate(module, crate, with_gate: bool, jobs: int):
     if with_gate and os.path.isdir(gate):
         paths.update({it: os.path.join(gate, it) for it in sorted(os.listdir(gate)) if it.endswith(".edit")})
     joined = [it for path in paths.values() if (it := placed(path, crate.folder))]
-    with tempfile.TemporaryDirectory(prefix="parish-kept-") as kept:
-        found = Trial(module, crate, jobs, kept).refused(joined)
+    found = Trial(module, crate, jobs).refused(joined)
     for name, goal in sorted(found.items()):
         print(f"joined {crate.name}/{name}: refused, as it must be: {goal[:160]}", flush=True)
     failed = 0

@@ -34,6 +34,7 @@ import exports  # noqa: E402
 import faults  # noqa: E402
 import files  # noqa: E402
 import gate_edits  # noqa: E402
+import histories  # noqa: E402
 import imports  # noqa: E402
 import kept_gate  # noqa: E402
 import layout  # noqa: E402
@@ -79,6 +80,7 @@ PARTS = (
     until_refused,
     references,
     past_values,
+    histories,
     imports,
     kept_gate,
     leaks,

@@ -33,6 +33,7 @@ RIGHT = (
     ("sheet", "FILE", "pedigree", "1", "--generations", "2", *TODAY),
     ("serve", "FILE", "--port", "8080", "--count", "0", *TODAY),
     ("audit", "FILE"),
+    ("history", "FILE", "1"),
     ("days", "FILE", "--words", "--from", "1800-01-01", "--to", "1801-01-01"),
     ("norm",),
     ("check",),

@@ -105,6 +105,7 @@ use Rattle.tasks.specs.Ends.{
   IsAudit,
   ListsDays,
   PrintsSheet,
+  PrintsHistory,
   PrintsText,
   Publishes,
   PublishesPlain,
@@ -215,6 +216,7 @@ module _ {R W F : Type 0} (reader : read.Ghosts R) (reads : device.Ghosts R) (wr
   acts_none (task.Days first last words) c none never = refl
   acts_none (task.List source listing) c none never = refl
   acts_none (task.Show numbers) c none never = refl
+  acts_none (task.History n) c none never = refl
 
   pub keeps_none : (t : Task) (society : List ℕ) (c : Content) (left : Trees) → Acts c (Some t) (run t) []
       → HoldsArchive society c left → FoundIn t society c left
@@ -755,6 +757,14 @@ module _ {R W F : Type 0} (reader : read.Ghosts R) (reads : device.Ghosts R) (wr
           let had_it = (held.has read.0 society c tables holds had).0 in
           (had_it.0, (read.1 had_it.0 c had_it.1 (seen_of had_it.2)).1 left may, had_it.2)
 
+      history_printed : (n : ℕ) (r : Plain)
+          → PrintsHistory over_files reader reads writer writes faulter fails Before After n r
+          → IsArchive society c left
+      history_printed n r did =
+          let read = did.ended clean in
+          let had_it = (held.has read.0 society c tables holds had).0 in
+          (had_it.0, (read.1 had_it.0 c had_it.1 (seen_of had_it.2)).1 left may, had_it.2)
+
       table_checked : (source : ℕ) (form : TableForm) (o : Outcome)
           → ChecksTable over_files reader reads writer writes faulter fails Before After source form o
           → IsArchive society c left
@@ -809,3 +819,5 @@ module _ {R W F : Type 0} (reader : read.Ghosts R) (reads : device.Ghosts R) (wr
       found_by law back (task.Show numbers) o shown did finishes =
           keeps_none (task.Show numbers) society c left refl
           (inl (text_printed (λ k. shown_text k numbers.items) did.0.0 did.0.2))
+      found_by law back (task.History n) o shown did finishes =
+          keeps_none (task.History n) society c left refl (inl (history_printed n did.0.0 did.0.2))

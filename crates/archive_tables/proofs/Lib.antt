@@ -1,5 +1,6 @@
 mod Checked
 pub mod Looked
+mod Recalled
 mod Shown
 pub mod Entered
 pub mod PageLooked

@@ -9,10 +9,16 @@ use Rattle.record_text.specs.declared.refusal.RefusalKind.TheVariants.{NoSuch, O
 use Rattle.store.specs.Viewing.{OnReadable}
 use Rattle.store_tables.specs.Calls.{LeavesOnly}
 use Rattle.store_tables.specs.Looking.{IsFailure}
+use Rattle.store_tables.specs.Rows.{Rows}
 
--- P of what an archive holds, sound or not, where each record can be looked for; and a crash leaves it
+-- P of the rows of an archive and of what it holds, sound or not, where each record can be looked for; and a crash
+-- leaves it
+abbrev pub OnRows : State → State → (Rows → Content → Type 0) → Type 0
+OnRows old new P = HasCleanDisk new → HasCleanDisk old × OnReadable old (λ rows c. P rows c × LeavesOnly new rows)
+
+-- the same of what it holds alone
 abbrev pub OnRead : State → State → (Content → Type 0) → Type 0
-OnRead old new P = HasCleanDisk new → HasCleanDisk old × OnReadable old (λ rows c. P c × LeavesOnly new rows)
+OnRead old new P = OnRows old new (λ _ c. P c)
 
 -- there is a text, and the writer has got all of it
 abbrev pub IsWhole : Option (List ℕ) → Option (List ℕ) → Option (List ℕ) → Type 0

@@ -3,4 +3,5 @@ pub mod Ends
 pub mod Texts
 pub mod Entering
 pub mod Looking
+pub mod Remembering
 pub mod RowBatches

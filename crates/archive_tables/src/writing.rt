@@ -133,7 +133,7 @@ fn all_bytes<V: View>(
 }
 
 /// Writes what looks have found, unless they lost the archive: then it is 80. 50: there is no text.
-fn write_found<W: Write + Device>(
+pub(crate) fn write_found<W: Write + Device>(
     is_lost: bool,
     found: Result<Option<Vec<u8>>, RefusalKind>,
     writer: &mut W,

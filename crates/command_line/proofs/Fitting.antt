@@ -192,6 +192,8 @@ fit_of (asked.Find file names kind limit csv) found e has some =
     (λ rows words. both_true _ _ words.2 (meant_there records_named _ kind words.3))
 fit_of (asked.Show file numbers) found e has some =
     fit_by (asked.Show file numbers) found (codes "show") e has (λ rows words. words.2)
+fit_of (asked.History file number) found e has some =
+    fit_by (asked.History file number) found (codes "history") e has (λ rows words. refl)
 fit_of (asked.Review file csv) found e has some =
     fit_by (asked.Review file csv) found (codes "review") e has (λ rows words. refl)
 fit_of (asked.Completions text) found e has some =

@@ -71,6 +71,7 @@ use Rattle.command_line.specs.declared.tasks.Asked.TheVariants.{
   ExportPublic,
   ExportPublicPlain,
   Find,
+  History,
   Import,
   Init,
   List as ListAsked,
@@ -118,6 +119,7 @@ name_of (Days file first last words) = Some (codes "days")
 name_of (ListAsked file kind source after limit csv) = Some (codes "list")
 name_of (Find file words kind limit csv) = Some (codes "find")
 name_of (Show file numbers) = Some (codes "show")
+name_of (History file number) = Some (codes "history")
 name_of (Review file csv) = Some (codes "review")
 name_of (Completions text) = Some (codes "completions")
 name_of _ = None
@@ -277,6 +279,8 @@ HasWords found (Find file words kind limit csv) =
 HasWords found (Show file numbers) =
     (file.now ≡ word_in found (codes "FILE")) × (numbers.items ≡ flat_map numbers_in (words_in found (codes "NO")))
     × (list_all is_number (words_in found (codes "NO")) ≡ true)
+HasWords found (History file number) =
+    (file.now ≡ word_in found (codes "FILE")) × (number ≡ number_of (word_in found (codes "NO")))
 HasWords found (Completions text) = is_shell (word_in found (codes "SHELL")) ≡ true
 HasWords found _ = ⊤
 

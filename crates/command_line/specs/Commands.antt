@@ -242,6 +242,9 @@ find_shape = record (new_shape (codes "find")) {
 abbrev pub show_shape : Shape
 show_shape = record (new_shape (codes "show")) { rules = file_rule ∷ records_rule ∷ [] }
 
+abbrev pub history_shape : Shape
+history_shape = record (new_shape (codes "history")) { rules = file_rule ∷ record_rule ∷ [] }
+
 abbrev pub review_shape : Shape
 review_shape = record (new_shape (codes "review")) { rules = file_rule ∷ csv_rule ∷ [] }
 
@@ -251,7 +254,7 @@ completions_shape = record (new_shape (codes "completions")) { rules = shell_rul
 abbrev pub commands : List Shape
 commands = norm_shape ∷ check_shape ∷ convert_shape ∷ init_shape ∷ apply_shape ∷ entries_shape ∷ import_shape
     ∷ export_shape ∷ sheet_shape ∷ serve_shape ∷ audit_shape ∷ days_shape ∷ list_shape ∷ find_shape ∷ show_shape
-    ∷ review_shape ∷ completions_shape ∷ []
+    ∷ history_shape ∷ review_shape ∷ completions_shape ∷ []
 
 -- the program with its commands
 abbrev pub program : App

@@ -32,7 +32,7 @@ use crate::entering::entries_asked;
 use crate::showing::{days_asked, export_asked, serve_asked, sheet_asked};
 use crate::subcommands::parish_command;
 use crate::tasks::{Asked, Refused};
-use crate::words::{is_yes, word_of};
+use crate::words::{is_yes, number_of, word_of};
 use clap::error::ErrorKind;
 use clap::{ArgMatches, Error};
 use std::alloc::Global;
@@ -109,6 +109,10 @@ fn command_named<'a>(
         "review" => Ok(review_asked(given)),
         "find" => find_asked(alloc, given),
         "show" => show_asked(alloc, given),
+        "history" => Ok(Asked::History {
+            file: word_of(given, "FILE"),
+            number: number_of(word_of(given, "NO")),
+        }),
         "completions" => completions_asked(alloc, given),
         _ => no_such_command(alloc),
     }

@@ -22,8 +22,8 @@ _parish() {
     local word=${COMP_WORDS[COMP_CWORD]} before=${COMP_WORDS[COMP_CWORD - 1]} command=${COMP_WORDS[1]}
     local offered= files=
     if ((COMP_CWORD == 1)); then
-        offered='norm check convert init apply entries import export sheet serve audit days list find show review \
-completions --help --version'
+        offered='norm check convert init apply entries import export sheet serve audit days list find show history \
+review completions --help --version'
     else
         case $command:$COMP_CWORD:$before in
             init:2:*) files=1 ;;
@@ -40,6 +40,7 @@ completions --help --version'
             list:3:*) offered='persons families events places repositories sources citations entries others slips' ;;
             find:2:*) files=1 ;;
             show:2:*) files=1 ;;
+            history:2:*) files=1 ;;
             review:2:*) files=1 ;;
             completions:2:*) offered='bash zsh' ;;
         esac
@@ -81,6 +82,7 @@ completions --help --version'
             find:--limit) offered='' files= ;;
             find:*) [[ $word != -* ]] || offered='--kind --limit --csv --help' files= ;;
             show:*) [[ $word != -* ]] || offered='--help' files= ;;
+            history:*) [[ $word != -* ]] || offered='--help' files= ;;
             review:*) [[ $word != -* ]] || offered='--csv --help' files= ;;
             completions:*) [[ $word != -* ]] || offered='--help' files= ;;
         esac
@@ -110,6 +112,7 @@ local -a commands=(
     'list:List the records of a kind, or the slips of merges'
     'find:Find the records with a name that has some words'
     'show:Show records whole'
+    'history:Show what a record was before'
     'review:List what is doubtful'
     'completions:Print what a shell reads to complete words after parish'
 )
@@ -220,6 +223,11 @@ sources citations entries others)' \\
         _arguments '--help[Print help]' \\
             '1:The file of the archive:_files' \\
             '*:The numbers of the records, 1 to 4294967295, or @TOKEN:'
+        ;;
+    history)
+        _arguments '--help[Print help]' \\
+            '1:The file of the archive:_files' \\
+            '2:The number of the record, 1 to 4294967295:'
         ;;
     review)
         _arguments '--help[Print help]' \\

@@ -13,8 +13,9 @@ use crate::arguments::{
     SOURCE, STOP, TABLE, TODAY, TOKEN, WORDS, Word, arg_of,
 };
 use crate::texts_finding::{
-    COMPLETIONS_ABOUT, COMPLETIONS_EXAMPLE, FIND_ABOUT, FIND_EXAMPLE, LIST_ABOUT, LIST_EXAMPLE,
-    REVIEW_ABOUT, REVIEW_EXAMPLE, SHOW_ABOUT, SHOW_EXAMPLE,
+    COMPLETIONS_ABOUT, COMPLETIONS_EXAMPLE, FIND_ABOUT, FIND_EXAMPLE, HISTORY_ABOUT,
+    HISTORY_EXAMPLE, LIST_ABOUT, LIST_EXAMPLE, REVIEW_ABOUT, REVIEW_EXAMPLE, SHOW_ABOUT,
+    SHOW_EXAMPLE,
 };
 use crate::texts_in::{
     APPLY_ABOUT, APPLY_EXAMPLE, ENTRIES_ABOUT, ENTRIES_EXAMPLE, IMPORT_ABOUT, IMPORT_EXAMPLE,
@@ -56,7 +57,7 @@ pub(crate) struct CommandRow {
 }
 
 /// The commands, in the order of the help.
-const COMMANDS: [CommandRow; 17] = [
+const COMMANDS: [CommandRow; 18] = [
     NORM,
     CHECK,
     CONVERT,
@@ -72,6 +73,7 @@ const COMMANDS: [CommandRow; 17] = [
     LIST,
     FIND,
     SHOW,
+    HISTORY,
     REVIEW,
     COMPLETIONS,
 ];
@@ -179,6 +181,13 @@ const SHOW: CommandRow = CommandRow {
     about: SHOW_ABOUT,
     example: SHOW_EXAMPLE,
     words: &[FILE, RECORDS],
+};
+
+const HISTORY: CommandRow = CommandRow {
+    name: "history",
+    about: HISTORY_ABOUT,
+    example: HISTORY_EXAMPLE,
+    words: &[FILE, RECORD],
 };
 
 const REVIEW: CommandRow = CommandRow {

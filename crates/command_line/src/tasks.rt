@@ -136,6 +136,12 @@ pub enum Asked<'a> {
         file: &'a str,
         numbers: Vec<NumberWord>,
     },
+    /// `history`: what the record of this number was before, as the archive in a file keeps it, and what it is now, on
+    /// standard output; then rows that put the last value back.
+    History {
+        file: &'a str,
+        number: u32,
+    },
     /// `completions`: what a shell reads to complete words after `parish`, on standard output.
     Completions {
         text: &'a str,

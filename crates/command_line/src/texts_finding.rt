@@ -69,6 +69,28 @@ Examples:
   parish show ashby.db 17 21
   parish show ashby.db @page-12";
 
+pub(crate) const HISTORY_ABOUT: &str = "Show what a record was before";
+
+pub(crate) const HISTORY_EXAMPLE: &str = "\
+The record is printed as it was before each request that overwrote or removed it,
+the oldest value first: a line with the key of the value and the token of that
+request, and the value as show prints it; then what it is now, or that it is
+removed. Last come rows for parish apply that put back what it was before the last
+of these requests, with tokens that no row had; below them it is said what no row
+puts back. Imports, merges and undos keep no values here. The living are not
+hidden: the archive is not changed, and nothing is for visitors.
+
+Refusals:
+  40 BadStored     what is stored is no record: somebody else wrote FILE
+  50 NoSuch        no record has this number, and no earlier value is stored
+  82 NotAnArchive  there is no FILE, or it is no archive
+  95 WriteFailed   standard output could not be written
+  1, 80, 83
+docs/REFUSALS.md, beside the source of parish, says what to do about each.
+
+Example:
+  parish history ashby.db 17";
+
 pub(crate) const REVIEW_ABOUT: &str = "List what is doubtful";
 
 pub(crate) const REVIEW_EXAMPLE: &str = "\

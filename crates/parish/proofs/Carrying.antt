@@ -147,6 +147,8 @@ module _ {R W F D S : Type 0} {g : disk.Ghosts D} (reader : read.Ghosts R) (read
           let t = find_task words which limit csv in ((Some t, refl, performs t did), tt)
       is_run (asked.Show file numbers) did =
           let t = task.Show numbers in ((Some t, refl, performs t did), tt)
+      is_run (asked.History file number) did =
+          let t = task.History number in ((Some t, refl, performs t did), tt)
       is_run (asked.Review file csv) did =
           let t = review_task csv in ((Some t, refl, performs t did), tt)
       is_run (asked.Completions text) did = ((None, refl, idles [] (inl did.2.0)), tt)

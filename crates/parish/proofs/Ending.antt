@@ -113,6 +113,8 @@ module _ {D S R W F : Type 0} {g : disk.Ghosts D} (reader : read.Ghosts R) (read
       file_at_most_1 (find_task words which limit csv) did.0 did.1
   does_at_most_1 (asked.Show file numbers) did =
       file_at_most_1 (task.Show numbers) did.0 did.1
+  does_at_most_1 (asked.History file number) did =
+      file_at_most_1 (task.History number) did.0 did.1
   does_at_most_1 (asked.Review file csv) did =
       file_at_most_1 (review_task csv) did.0 did.1
   does_at_most_1 (asked.Completions text) did = finished_at_most_1 _ did.0
@@ -178,6 +180,8 @@ module _ {D S R W F : Type 0} {g : disk.Ghosts D} (reader : read.Ghosts R) (read
       file_quietly (find_task words which limit csv) did.0 did.1 refl zero
   does_quietly (asked.Show file numbers) did is zero =
       file_quietly (task.Show numbers) did.0 did.1 refl zero
+  does_quietly (asked.History file number) did is zero =
+      file_quietly (task.History number) did.0 did.1 refl zero
   does_quietly (asked.Review file csv) did is zero =
       file_quietly (review_task csv) did.0 did.1 refl zero
   does_quietly (asked.Completions text) did is zero = finished_quietly _ did.0 zero

@@ -44,6 +44,7 @@ module _ {R W F D S : Type 0} {g : disk.Ghosts D} (reader : read.Ghosts R) (read
   untaken (asked.List file which source after limit csv) is did help = absurd (none is.0)
   untaken (asked.Find file names which limit csv) is did help = absurd (none is.0)
   untaken (asked.Show file numbers) is did help = absurd (none is.0)
+  untaken (asked.History file number) is did help = absurd (none is.0)
   untaken (asked.Review file csv) is did help = absurd (none is.0)
   untaken (asked.Completions text) is did help = absurd (none is.0)
   untaken (asked.Text text) is did help = (did.1, did.2, inl (help refl, (string_bytes text, did.0)))

@@ -42,6 +42,7 @@ use Rattle.command_line.specs.declared.tasks.Asked.TheVariants.{
   ExportPublic,
   ExportPublicPlain,
   Find,
+  History,
   Import,
   Init,
   List as ListAsked,
@@ -165,6 +166,7 @@ module _ {D S R W F : Type 0} {g : disk.Ghosts D} (reader : read.Ghosts R) (read
   Does (ListAsked file which source after limit csv) = DoesTask (list_task which source after limit csv)
   Does (Find file words which limit csv) = DoesTask (find_task words which limit csv)
   Does (Show file numbers) = DoesTask (task.Show numbers)
+  Does (History file number) = DoesTask (task.History number)
   Does (Review file csv) = DoesTask (review_task csv)
   Does (Completions text) = Prints text.now × IsUnread × OpensNothing
   Does (Text text) = Prints (string_bytes text) × IsUnread × OpensNothing

@@ -16,6 +16,7 @@ use Rattle.command_line.specs.declared.tasks.Asked.TheVariants.{
   ExportPublic,
   ExportPublicPlain,
   Find,
+  History,
   Import,
   Init,
   List as ListAsked,
@@ -53,6 +54,7 @@ HasTask (Days file first last words) t = t ≡ Some (task.Days first last words)
 HasTask (ListAsked file which source after limit csv) t = t ≡ Some (list_task which source after limit csv)
 HasTask (Find file words which limit csv) t = t ≡ Some (find_task words which limit csv)
 HasTask (Show file numbers) t = t ≡ Some (task.Show numbers)
+HasTask (History file number) t = t ≡ Some (task.History number)
 HasTask (Review file csv) t = t ≡ Some (review_task csv)
 HasTask _ t = t ≡ None
 

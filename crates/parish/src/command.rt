@@ -243,6 +243,10 @@ fn work<S: Openable, R: Read + Device, W: Write + Device, F: FaultStream>(
             let task = Task::Show { numbers };
             do_task(rt, file, task, start, input, output, faults)
         }
+        Asked::History { file, number } => {
+            let task = Task::History { number };
+            do_task(rt, file, task, start, input, output, faults)
+        }
         Asked::Review { file, csv } => {
             let task = review_task(csv);
             do_task(rt, file, task, start, input, output, faults)

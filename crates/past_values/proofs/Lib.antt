@@ -1,1 +1,1 @@
-mod Recalled
+mod Made

@@ -1,5 +1,5 @@
 -- The values that a number had before, as they are read of their rows. Rules of our own.
-use Rattle.std.specs.Prelude.{ℕ, ℤ, ◌≡◌, List, map}
+use Rattle.std.specs.Prelude.{ℕ, ℤ, ◌≡◌, List, length, map}
 use Rattle.std.specs.List.{AllByRecursion}
 use Rattle.earlier_values.specs.Earlier.{IsPastOf}
 use Rattle.packed_rows.specs.Packed.{HaveText}
@@ -31,3 +31,7 @@ CanBeRecalled n rows =
 -- these are the values of before of a number, one for each row, in their order
 abbrev pub AreValuesAt : ℕ → Rows → List PastValue → Type 0
 AreValuesAt n rows values = EachWith IsValueOf (map read_past (pasts_at n rows)) values
+
+-- the same, and so many answers are kept
+abbrev pub IsRecalled : ℕ → Rows → ℕ → List PastValue → Type 0
+IsRecalled n rows answers values = AreValuesAt n rows values × (answers ≡ length rows.receipts)

@@ -8,4 +8,4 @@
 
 mod reading;
 
-pub use reading::{PastValue, past_values};
+pub use reading::{PastValue, Recalled, past_values, recall};

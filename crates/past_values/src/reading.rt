@@ -1,12 +1,12 @@
 //! The values that a number had before.
 
-ghost use Rattle.std.specs.Prelude.{◌≡◌, ◌⊎◌, ◌++◌, ◌∷◌, [], false, IfErr, IfOk, OnOk};
+ghost use Rattle.std.specs.Prelude.{◌≡◌, ◌⊎◌, ◌++◌, ◌∷◌, [], false, length, IfErr, IfOk, OnOk};
 ghost use Rattle.std.specs.List.{AllByRecursion};
 ghost use Rattle.sqlite.specs.Held.{state};
 ghost use Rattle.record_text.specs.declared.refusal.RefusalKind.TheVariants.{BadStored, OutOfMemory};
 ghost use Rattle.store_tables.specs.Conversion.{EachWith};
-ghost use Rattle.store_tables.specs.Looking.{LooksUnless};
-ghost use Rattle.past_values.specs.Recalling.{AreValuesAt, CanBeRecalled, HasRecord, IsValueOf};
+ghost use Rattle.store_tables.specs.Looking.{Looks, LooksUnless};
+ghost use Rattle.past_values.specs.Recalling.{AreValuesAt, CanBeRecalled, HasRecord, IsRecalled, IsValueOf};
 
 use earlier_values::record_of_past;
 use receipts::Token;
@@ -14,8 +14,8 @@ use record_kinds::Record;
 use record_text::RefusalKind;
 use sqlite::{Alter, Connection};
 use std::alloc::{AllocError, Global};
-use store_tables::PastRow;
 use store_tables::pasts::pasts_at;
+use store_tables::{PastRow, count_receipts};
 
 /// What a number was before a request: the key of the row that has it, the token of the request, and the record.
 #[derive(Drop)]
@@ -23,6 +23,47 @@ pub struct PastValue {
     pub id: i64,
     pub token: Token,
     pub record: Record,
+}
+
+/// What an archive knows of what a number was before: the values, by the keys of their rows, and how many answers it
+/// has kept.
+#[derive(Drop)]
+pub struct Recalled {
+    pub values: Vec<PastValue>,
+    pub answers: usize,
+}
+
+/// What an archive knows of what a number was before. No transaction may be open. Refusals as of `past_values`.
+pub fn recall<S: Alter>(
+    alloc: Global,
+    conn: &mut Connection<S>,
+    number: u32,
+) -> Result<Recalled, RefusalKind>
+    requires autocommit { conn.old.in_transaction ≡ false }
+    ensures looks { LooksUnless (λ rows found. IsRecalled number rows found.answers found.values.items)
+        (CanBeRecalled number) (state S.Store conn.old) (state S.Store conn.new) result }
+    ensures ended { conn.new.in_transaction ≡ false }
+{
+    match past_values(alloc, conn, number) {
+        Ok(values) => with_answers(conn, values),
+        Err(kind) => Err(kind),
+    }
+}
+
+/// The values, with how many answers the archive has kept.
+fn with_answers<S: Alter>(
+    conn: &mut Connection<S>,
+    values: Vec<PastValue>,
+) -> Result<Recalled, RefusalKind>
+    requires autocommit { conn.old.in_transaction ≡ false }
+    ensures looks { Looks (λ rows found. (found.values ≡ values) × (found.answers ≡ length rows.receipts))
+        (state S.Store conn.old) (state S.Store conn.new) result }
+    ensures ended { conn.new.in_transaction ≡ false }
+{
+    match count_receipts(conn) {
+        Ok(answers) => Ok(Recalled { values, answers }),
+        Err(kind) => Err(kind),
+    }
 }
 
 /// The values of before of a number, by the keys of their rows. No transaction may be open. 40: such a row cannot be

@@ -4,7 +4,7 @@
 //!
 //! - `row`: a row, without its token.
 //! - `persons`, `families`, `events`, `sources`, `entries`: what is put back of each kind of record.
-//! - `back`: of a record.
+//! - `back`: of a record. `laws`: one that is as it was needs no row.
 //!
 //! Callers may rely on: the rows are those of the definition. What came later stays, and some of what was there before
 //! no row puts back: carried lines, the order of members, an empty name, that a title or the name of a repository was
@@ -15,6 +15,7 @@ mod back;
 mod entries;
 mod events;
 mod families;
+pub mod laws;
 mod persons;
 mod row;
 mod sources;

@@ -1,3 +1,4 @@
+pub mod Carried
 pub mod Details
 pub mod Fields
 pub mod Heads
@@ -5,3 +6,4 @@ pub mod Named
 pub mod Shown
 pub mod SlipLists
 pub mod Slips
+pub mod Values

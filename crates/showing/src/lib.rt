@@ -8,6 +8,7 @@
 //! is in it; nothing is changed.
 #![tactic(auto)]
 
+mod carrying;
 mod details;
 mod entries;
 mod events;
@@ -19,6 +20,9 @@ mod showing;
 mod slip_lists;
 mod slips;
 mod sources;
+mod values;
 
+pub use carrying::carried_text;
 pub use showing::show;
 pub use slip_lists::slip_page;
+pub use values::show_value;

@@ -226,7 +226,7 @@ fn own_slip(alloc: Global, number: u32, slip: &Slip) -> Result<String, AllocErro
 }
 
 /// The line of a record, and its fields.
-fn own(alloc: Global, number: u32, record: &Record) -> Result<String, AllocError>
+pub(crate) fn own(alloc: Global, number: u32, record: &Record) -> Result<String, AllocError>
     ensures { IfOk result (λ s. string_bytes s ≡ heads.head number «record».now ++ fields.fields «record».now) }
 {
     let mut out = String::new(alloc);
@@ -252,7 +252,7 @@ fn push_fields(alloc: Global, out: &mut String, record: &Record) -> Result<(), A
 }
 
 /// The text as it is printed: each control character but LF, and each that turns the direction, is a space.
-fn shown_page(alloc: Global, text: &str) -> Result<String, AllocError>
+pub(crate) fn shown_page(alloc: Global, text: &str) -> Result<String, AllocError>
     ensures { IfOk result (λ s. string_bytes s ≡ shown.shown_page text.now) }
 {
     text.chars().map(|c| shown_in_page(c)).collect(alloc)

@@ -283,6 +283,14 @@ module _ (means : (rows other : Rows) (c : Content) → IsSeenAs rows other → 
             (c, refl, (out.0, out.1, seen_keeps society c has.0 out.0 out.2 has.2));
         clean = still.clean;
       };
+      pasts = record {
+        same = λ sure society c rows was keeps.
+            let out = clears.stays sure rows (to_clear society c (rows, was, keeps)) in
+            (out.0, out.1, (seen_keeps society c rows out.0 out.2 keeps, out.2.pasts));
+        crash = λ society c rows was keeps t l.
+            let out = clears.crash rows (to_clear society c (rows, was, keeps)) t l in
+            (out.0, out.1, (seen_keeps society c rows out.0 out.2 keeps, out.2.pasts));
+      };
       finished = ok_then r (λ done society c has.
           let out = done has.0 (to_clear society c has) in
           no_import new out.0 out.1 (none_open out.0.batches out.3)) clears.cleared;
@@ -312,6 +320,10 @@ module _ (old mid new : State) (r : Result (Unit {0}) RefusalKind) (still : Stay
       crash = λ society c has. absurd (none has.0 has.1 has.2.dated);
       clean = still.clean;
     };
+    pasts = record {
+      same = λ sure society c rows was keeps. absurd (none rows was keeps.dated);
+      crash = λ society c rows was keeps. absurd (none rows was keeps.dated);
+    };
     finished = any_ok r (λ society c has. absurd (none has.0 has.1 has.2.dated));
     refused = any_err r (λ kind society c has. absurd (none has.0 has.1 has.2.dated));
     untouched = λ rows was dated all. absurd (none rows was dated);
@@ -334,6 +346,10 @@ not_recognised old new kind still refused = record {
     same = λ sure society c has. (has.0, still.same sure has.0 has.1, has.2);
     crash = λ society c has t l. (c, refl, (has.0, still.crash has.0 has.1 t l, has.2));
     clean = still.clean;
+  };
+  pasts = record {
+    same = λ sure society c rows was keeps. (rows, still.same sure rows was, (keeps, refl));
+    crash = λ society c rows was keeps t l. (rows, still.crash rows was t l, (keeps, refl));
   };
   finished = tt;
   refused = λ society c has. refused has.0 has.1;

@@ -8,6 +8,7 @@ mod Imports
 mod InTurn
 mod Looked
 mod Readable
+mod Recalled
 mod OpenCalls
 pub mod Opened
 mod Overwritten

@@ -15,19 +15,21 @@ use Rattle.record_text.specs.declared.refusal.RefusalKind.TheVariants.{
   OutOfMemory,
   Storage,
 }
-use Rattle.store_tables.specs.Calls.{LeavesOnly, Settled}
+use Rattle.store_tables.specs.Calls.{Good, LeavesOnly, Settled}
 use Rattle.store_tables.specs.Looking.{IsFailure, IsRefusedStore, ShowsVersion, version_number}
 use Rattle.store_tables.specs.Prepared.{IsUnderstood, NamesMissing, queries_of}
-use Rattle.store_tables.specs.Rows.{BatchRow, Rows}
+use Rattle.store_tables.specs.Rows.{BatchRow, PastRow, Rows}
 use Rattle.store_tables.specs.declared.version.Version.{Version}
 use Rattle.store_rows.specs.Meaning.{is_closed}
+use Rattle.store_rows.specs.Pasts.{HasMorePasts}
 use Rattle.store_rows.specs.Spans.{IsDated}
 use Rattle.staged_rows.specs.Removing.{IsSeenAs}
 use Rattle.staged_rows.specs.Staging.{AreAllClosed}
 use Rattle.staging.specs.Clearing.{IsCleared, LeavesSeen}
 use Rattle.older_archives.specs.Meaning.{MeansAnew}
 use Rattle.older_archives.specs.Renewing.{IsRenewed, LeavesRenewed}
-use Rattle.store.specs.Archives.{HasArchive, LeavesArchive}
+use Rattle.store.specs.Archives.{HasArchive, Keeps, LeavesArchive}
+use Rattle.store.specs.Calls.{OnArchive}
 use Rattle.store.specs.Earlier.{HadArchive, LeavesHeld, ShowsArchive}
 use Rattle.store.specs.Histories.{has_broken}
 use Rattle.std.specs.List.{AllByRecursion, list_any}
@@ -103,6 +105,23 @@ pub record KeepsArchive (old : State) (failed : Bool) (new : State) : Type 0 whe
       → LeavesArchive new society (λ found. found ≡ c)
   pub clean : HasCleanDisk old
 
+-- an archive has its rows of values of before, all and in their order
+abbrev pub HasPasts : List ℕ → Content → Rows → Rows → Type 0
+HasPasts society c rows now = Keeps society c now × (now.pasts ≡ rows.pasts)
+
+-- the values of before of an archive stay: unless the database failed the connection has them; a crash leaves them in
+-- any case
+pub record KeepsPasts (old : State) (failed : Bool) (new : State) : Type 0 where
+  pub same : failed ≡ false → OnArchive old (λ society c rows. (now : Rows) × Settled new now
+      × HasPasts society c rows now)
+  pub crash : OnArchive old (λ society c rows. (t : Trees) → new.may_leave t → (now : Rows) × Good now t
+      × HasPasts society c rows now)
+
+-- a connection has an archive of this society, with all these rows of values of before, and they come first
+abbrev pub HasValuesOf : Rows → List ℕ → State → Type 0
+HasValuesOf rows society s = (c : Content) × (now : Rows) × Settled s now × Keeps society c now
+    × ((more : List PastRow) × HasMorePasts rows now more)
+
 -- an archive of the first version is taken up, and imports that were left open are removed from it: then it is one of
 -- the second version, holds anew what it held, and no import is open. It is refused only if out of memory, or because
 -- the database failed; unless the latter, the connection has it, in one of the two versions. Whatever a crash may leave
@@ -115,11 +134,12 @@ pub record TakesUpAnew (old : State) (result : Result (Unit {0}) RefusalKind) (n
   pub refused : IfErr result (λ kind. (society : List ℕ) (c : Content) → HadArchive society c old → IsFailure kind)
   pub crash : (society : List ℕ) (c : Content) → HadArchive society c old → LeavesHeld new society c
 
--- an archive is taken up, and imports that were left open are removed from it: then none is open. It is refused only
--- if out of memory, or because the database failed. Where none was left open it keeps its rows, and a crash leaves
--- just these. One of the first version is converted
+-- an archive is taken up, and imports that were left open are removed from it: then none is open, and all values of
+-- before are there. It is refused only if out of memory, or because the database failed. Where none was left open it
+-- keeps its rows, and a crash leaves just these. One of the first version is converted
 pub record TakesUp (old : State) (result : Result (Unit {0}) RefusalKind) (new : State) : Type 0 where
   pub keeps : KeepsArchive old (has_broken result) new
+  pub pasts : KeepsPasts old (has_broken result) new
   pub finished : OnOk result ((society : List ℕ) (c : Content) → HasArchive society c old → HasNoImport new)
   pub refused : IfErr result (λ kind. (society : List ℕ) (c : Content) → HasArchive society c old → IsFailure kind)
   pub untouched : (rows : Rows) → Settled old rows → IsDated rows → AreAllClosed rows

@@ -8,6 +8,7 @@ pub mod Importing
 pub mod Lives
 pub mod Looking
 pub mod Overwritten
+pub mod Recalling
 pub mod Shut
 pub mod Standing
 pub mod Telling

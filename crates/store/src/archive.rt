@@ -80,6 +80,8 @@ ghost use Rattle.store.specs.Importing.{HasAnswered, HasBegun, HasImport, HasPub
 ghost use Rattle.store.specs.Lives.{IsCall, IsOpenedOver, IsRefusedOver, IsTakenUpOver};
 ghost use Rattle.store.specs.Looking.{IsRead, IsUnread};
 ghost use Rattle.store.specs.Overwritten.{keeps_past};
+ghost use Rattle.past_values.specs.Recalling.{CanBeRecalled, IsRecalled};
+ghost use Rattle.store.specs.Recalling.{Recalls};
 ghost use Rattle.store.specs.Standing.{
   begun_as,
   heard,
@@ -97,10 +99,12 @@ use crate::failing::{has_broken, has_failed, loses};
 use crate::open_imports::{abandon_open, publish_open, stage_open, told};
 use crate::performing::perform_on;
 use crate::reading::{society_on, state_on};
+use crate::recalling::recall_on;
 use archive_core::Request;
 use archive_state::State;
 use gedcom_tree::Forest;
 use import_commits::laws::an_import_that_is_begun_is_in_no_view;
+use past_values::Recalled;
 use receipts::{Answer, Token};
 use record_text::{Refusal, RefusalKind, Text};
 use sqlite::{Alter, Connection};
@@ -495,6 +499,30 @@ impl<S: Alter> Archive<S> {
         }
         an_import_that_is_begun_is_in_no_view();
         let read = between_on(alloc, &mut self.conn, first, last);
+        self.is_lost = has_broken(&read);
+        read
+    }
+
+    /// The values that a number had before, one for each row of them, by the keys of the rows, and how many answers are
+    /// kept. Refusals as of `state`, but 40 only where one of these rows cannot be read; it serves while an import is
+    /// open.
+    pub fn recall(&mut self, alloc: Global, number: u32) -> Result<Recalled, RefusalKind>
+        ensures recalls { HasCleanDisk (state S.Store self.new.conn) → self.old.is_lost ≡ false
+            → Recalls (λ rows found. IsRecalled number rows found.answers found.values.items)
+            (CanBeRecalled number) (state S.Store self.old.conn) result (state S.Store self.new.conn) }
+        ensures lost { self.old.is_lost ≡ false → self.new.is_lost ≡ has_broken result }
+        ensures reopen { IsTrue self.old.is_lost → (result ≡ Err refusal.Reopen) × (self.new ≡ self.old) }
+        ensures open { self.new.import ≡ self.old.import }
+        ensures called { (r : Request) → IsCall S.Store self.old.conn
+            (standing r self.old.is_lost self.old.import) [] self.new.conn
+            (standing r self.new.is_lost self.new.import) }
+        ensures uncounted { self.new.failures ≡ self.old.failures }
+    {
+        if self.is_lost {
+            return Err(RefusalKind::Reopen);
+        }
+        an_import_that_is_begun_is_in_no_view();
+        let read = recall_on(alloc, &mut self.conn, number);
         self.is_lost = has_broken(&read);
         read
     }

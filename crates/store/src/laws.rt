@@ -12,7 +12,8 @@ ghost use Rattle.receipts.specs.declared.answer.Answer.{Answer};
 ghost use Rattle.store.specs.Archives.{HasArchive, IsArchive};
 ghost use Rattle.store_rows.specs.Pasts.{HasMorePasts};
 ghost use Rattle.store_tables.specs.Rows.{PastRow, Rows};
-ghost use Rattle.store.specs.Calls.{Performs, RunsOn};
+ghost use Rattle.store.specs.Adopting.{HasValuesOf, TakesUp};
+ghost use Rattle.store.specs.Calls.{OnArchive, Performs, RunsOn};
 ghost use Rattle.store.specs.Earlier.{HoldsArchive};
 ghost use Rattle.staging.specs.Opened.{Import};
 ghost use Rattle.store.specs.Histories.{in_doubt};
@@ -97,3 +98,13 @@ pub fn values_of_before_are_only_added()
     ensures { (calls : List Done) (c after : Content) (rows now : Rows) → RunsOn c rows calls after now
         → (more : List PastRow) × HasMorePasts rows now more }
 {}
+
+/// An opening, which removes imports that were left open, and then a run of requests change and remove no row of values
+/// of before: all that there were stay, and first.
+pub fn values_of_before_outlive_an_opening<S: Alter>()
+    ensures { (old taken new : Held S) (calls : List Done) → TakesUp (state S.Store old) (Ok tt) (state S.Store taken)
+        → Performs (state S.Store taken) calls (state S.Store new) → in_doubt calls ≡ None
+        → OnArchive (state S.Store old) (λ society c rows. HasValuesOf rows society (state S.Store new)) }
+{
+    values_of_before_are_only_added();
+}

@@ -18,6 +18,7 @@ mod open_imports;
 mod overwriting;
 mod performing;
 mod reading;
+mod recalling;
 mod staged;
 mod viewing;
 mod whole_imports;

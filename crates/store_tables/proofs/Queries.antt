@@ -1,7 +1,27 @@
 -- What the queries answer.
-use Rattle.std.proofs.Common.{◌≡◌, ℕ, pos, List, [], ◌∷◌, map, refl, sym, ap, ap₂, true, subst, ◌∙◌, Less, Equal, Bool}
+use Rattle.std.proofs.Common.{
+  ◌≡◌,
+  ℕ,
+  pos,
+  List,
+  [],
+  ◌∷◌,
+  map,
+  length,
+  refl,
+  sym,
+  ap,
+  ap₂,
+  true,
+  subst,
+  ◌∙◌,
+  Less,
+  Equal,
+  Bool,
+}
 use Rattle.std.specs.Ordering.{ordering_then}
 use Rattle.std.specs.List.{AllByRecursion}
+use Rattle.std.proofs.lemmas.List.{length-map}
 use Rattle.sqlite.specs.declared.types.Value.TheVariants.{Null, Int}
 use Rattle.sqlite.specs.Order.{Row, value_cmp}
 use Rattle.sqlite.specs.Term.{Term, col, eval_all}
@@ -56,6 +76,10 @@ use Rattle.store_tables.proofs.Texts.{
   select_receipts_is,
   select_receipts_plain,
   select_receipts_unlisted,
+  receipt_keys,
+  receipt_keys_is,
+  receipt_keys_plain,
+  receipt_keys_unlisted,
   select_slips,
   select_slips_is,
   select_slips_plain,
@@ -132,6 +156,15 @@ reads_receipts old new read rows has was h =
     (select_receipts_unlisted rows.has_spans) read h in
     all_in_order receipt_values (λ (x : ReceiptRow). x.id) (λ _. refl) 4 (col 1 2 ∷ col 1 3 ∷ col 1 4 ∷ col 1 5 ∷ [])
     (overlay old.now.trees []) rows.receipts read was.receipts (reads.answer Null)
+
+pub counts_receipts : (old new : State) (read : List Row) (rows : Rows) → old.now.schema ≡ archive_schema rows.has_spans
+    → Holds rows old.now.trees → Shown receipt_keys [] old new read → length read ≡ length rows.receipts
+counts_receipts old new read rows has was h =
+    let reads = reads_as receipt_keys [] old new (archive_schema rows.has_spans) has _
+    (receipt_keys_is rows.has_spans) (receipt_keys_plain rows.has_spans)
+    (receipt_keys_unlisted rows.has_spans) read h in
+    ap length (all_in_order receipt_values (λ (x : ReceiptRow). x.id) (λ _. refl) 4 (col 1 0 ∷ [])
+    (overlay old.now.trees []) rows.receipts read was.receipts (reads.answer Null)) ∙ length-map _ _
 
 pub reads_slips : (old new : State) (read : List Row) (rows : Rows) → old.now.schema ≡ archive_schema rows.has_spans
     → Holds rows old.now.trees → Shown select_slips [] old new read → read ≡ map shown_slip rows.slips

@@ -318,6 +318,25 @@ unfolding understood everything
 select_receipts_unlisted false = refl
 select_receipts_unlisted true = refl
 
+abbrev pub receipt_keys : List ℕ
+receipt_keys = codes "SELECT id FROM receipt ORDER BY id"
+
+pub receipt_keys_is : (b : Bool) → command_of (understood (archive_schema b) receipt_keys) ≡ Select
+    (record { lets = []; body = simple 4 [] (col 1 0 ∷ []) by_key }) (codes "id" ∷ [])
+unfolding understood everything
+receipt_keys_is false = refl
+receipt_keys_is true = refl
+
+pub receipt_keys_plain : (b : Bool) → IsPlain (understood (archive_schema b) receipt_keys)
+unfolding understood everything
+receipt_keys_plain false = (refl, refl)
+receipt_keys_plain true = (refl, refl)
+
+pub receipt_keys_unlisted : (b : Bool) → reads_listing (archive_schema b) receipt_keys ≡ false
+unfolding understood everything
+receipt_keys_unlisted false = refl
+receipt_keys_unlisted true = refl
+
 abbrev pub update_record : List ℕ
 update_record = codes "UPDATE record SET kind = ?2, batch = ?3 WHERE no = ?1"
 

@@ -1,6 +1,6 @@
 //! All rows of an archive, read from its tables.
 
-ghost use Rattle.std.specs.Prelude.{◌≡◌, ◌⊎◌, Bool, List, [], ◌∷◌, true, false, map, IfOk, IfErr};
+ghost use Rattle.std.specs.Prelude.{◌≡◌, ◌⊎◌, Bool, List, [], ◌∷◌, length, true, false, map, IfOk, IfErr};
 ghost use Rattle.std.specs.List.{AllByRecursion};
 ghost use Rattle.sqlite.specs.declared.types.Value.{Value};
 ghost use Rattle.sqlite.specs.Held.{state};
@@ -75,6 +75,8 @@ pub(crate) const SELECT_PACKS: &str = "SELECT no, tag, text, dst FROM line ORDER
 pub(crate) const SELECT_RECEIPTS: &str =
     "SELECT token, digest, first, count FROM receipt ORDER BY id";
 
+const RECEIPT_KEYS: &str = "SELECT id FROM receipt ORDER BY id";
+
 pub(crate) const SELECT_SLIPS: &str = "SELECT no, keep, gone, undone FROM slip ORDER BY no";
 
 // The lines of slips, in the order in which they were written; under the second schema those of a side in one row.
@@ -118,6 +120,19 @@ pub fn society<S: Alter>(alloc: Global, conn: &mut Connection<S>) -> Result<Text
     ensures ended { conn.new.in_transaction ≡ false }
 {
     Ok(read_meta(alloc, conn)?.society)
+}
+
+/// How many answers are kept. 80: the database failed, or memory was refused to it. A key of each is read.
+pub fn count_receipts<S: Alter>(conn: &mut Connection<S>) -> Result<usize, RefusalKind>
+    requires autocommit { conn.old.in_transaction ≡ false }
+    ensures looks { Looks (λ rows count. count ≡ length rows.receipts) (state S.Store conn.old)
+        (state S.Store conn.new) result }
+    ensures ended { conn.new.in_transaction ≡ false }
+{
+    match ask(conn, RECEIPT_KEYS, &[]) {
+        Ok(rows) => Ok(rows.len()),
+        Err(_) => Err(RefusalKind::Storage),
+    }
 }
 
 /// What the one row of `meta` says.

@@ -129,6 +129,7 @@ module _ {S R W F : Type 0} (g : Ghosts S) (reader : read.Ghosts R) (reads : dev
   does_quietly (task.Days first last words) a b o shown did is = on_ok o did.2
   does_quietly (task.List source listing) a b o shown did is = on_ok o did.2
   does_quietly (task.Show numbers) a b o shown did is = on_ok o did.2
+  does_quietly (task.History n) a b o shown did is = on_ok o did.2
 
   pub ends_at_most_1 : (t : Task) (a b : Moment g R W F) (status : ℕ) (shown : Option Content)
       → Ends g reader reads writer writes faulter fails t a b status shown → status ≤ 1

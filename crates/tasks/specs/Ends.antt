@@ -33,7 +33,8 @@ use Rattle.table_looks.specs.Judging.{Audit, Judges, Tells, without_fault}
 use Rattle.archive_output.specs.Exporting.{IsPart, export_text}
 use Rattle.archive_output.specs.Reading.{OnOpen, OnlyReads, OnlyReadsAny}
 use Rattle.archive_tables.specs.Checks.{EndsChecking}
-use Rattle.archive_tables.specs.Ends.{EndsWriting, OnRead}
+use Rattle.archive_tables.specs.Ends.{EndsWriting, OnRead, OnRows}
+use Rattle.archive_tables.specs.Remembering.{EndsHistory}
 use Rattle.archive_tables.specs.Texts.{list_of, shown_text}
 use Rattle.archive_tables.specs.Entering.{EntersPage}
 use Rattle.archive_tables.specs.RowBatches.{Enters, IsNoBatch}
@@ -324,6 +325,16 @@ module _ {S R W F : Type 0} (g : Ghosts S) (reader : read.Ghosts R) (reads : dev
     pub stays : OnlyReads g a.archive b.archive
     pub lost : b.archive.is_lost ≡ has_broken r
 
+  -- the history of a number, by the values of before of its rows, whether it is sound or not; or a prefix of that, or
+  -- none
+  pub record PrintsHistory (n : ℕ) (r : Plain) : Type 0 where
+    pub ended : OnRows (state g a.archive.conn) (state g b.archive.conn)
+        (EndsHistory r (writer.contents a.output) (writer.contents b.output) n)
+    pub unread : IsUntouched r
+    pub blamed : IfErr r (λ kind. kind ≡ WriteFailed → HasWriteFailed)
+    pub stays : OnlyReads g a.archive b.archive
+    pub lost : b.archive.is_lost ≡ has_broken r
+
   -- ---- an audit
   -- the archive is sound, and how many records it has was printed; or it is not, or could not be looked at
   abbrev pub Audits : Outcome → Type 0
@@ -362,6 +373,7 @@ module _ {S R W F : Type 0} (g : Ghosts S) (reader : read.Ghosts R) (reads : dev
       × IsQuiet × (shown ≡ None)
   Does (task.Show numbers) outcome shown = Ended outcome (PrintsText (λ c. shown_text c numbers.items)) × IsUnread
       × IsQuiet × (shown ≡ None)
+  Does (task.History n) outcome shown = Ended outcome (PrintsHistory n) × IsUnread × IsQuiet × (shown ≡ None)
 
   -- ---- an archive that was lost before
   -- 81: nothing is read, written, changed or shown

@@ -16,7 +16,7 @@ use crate::tabling::enter_table;
 use crate::task::Task;
 use archive_input::{apply, apply_until_refused};
 use archive_output::{Shelf, write_archive, write_days, write_public, write_sheet};
-use archive_tables::{write_list, write_shown};
+use archive_tables::{write_history, write_list, write_shown};
 use devices::Device;
 use record_text::{RefusalKind, RefusalText};
 use sqlite::Alter;
@@ -147,5 +147,6 @@ fn do_task<S: Alter, C: Clock, R: Read + Device, W: Write + Device, F: FaultStre
             None,
         ),
         Task::Show { numbers } => (plain(write_shown(alloc, archive, &numbers, output)), None),
+        Task::History { number } => (plain(write_history(alloc, archive, number, output)), None),
     }
 }

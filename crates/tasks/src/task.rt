@@ -84,4 +84,9 @@ pub enum Task {
     Show {
         numbers: Vec<NumberWord>,
     },
+    /// What a number was before each request that overwrote it, and what it is now, on the output; then rows that put
+    /// the last value back.
+    History {
+        number: u32,
+    },
 }

@@ -62,6 +62,7 @@ quiet (asked.Days file first last told) words of has no_apply no_convert no_impo
 quiet (asked.List file which source after limit csv) words of has no_apply no_convert no_import no_plain no_table = refl
 quiet (asked.Find file names which limit csv) words of has no_apply no_convert no_import no_plain no_table = refl
 quiet (asked.Show file numbers) words of has no_apply no_convert no_import no_plain no_table = refl
+quiet (asked.History file number) words of has no_apply no_convert no_import no_plain no_table = refl
 quiet (asked.Review file csv) words of has no_apply no_convert no_import no_plain no_table = refl
 quiet (asked.Completions text) words of has no_apply no_convert no_import no_plain no_table = refl
 quiet (asked.Text text) words of has no_apply no_convert no_import no_plain no_table = refl

@@ -4,7 +4,7 @@ use Rattle.std.proofs.lemmas.Result.{IfErr-weaker, IfOk-weaker}
 use Rattle.sqlite.specs.Held.{state}
 use Rattle.store_tables.specs.Conversion.{EachWith}
 use Rattle.past_values.specs.Recalling.{HasRecord, IsValueOf}
-use Rattle.past_values.proofs.Recalled.{looks_on, looks_refused}
+use Rattle.past_values.proofs.Made.{looks_on, looks_refused}
 use Rattle.past_values.proofs.reading.past_values.Goals as goal
 
 pub returns-in-Ok-clause-looks : goal.returns-in-Ok-clause-looks

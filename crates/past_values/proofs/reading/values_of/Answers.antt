@@ -4,7 +4,7 @@ use Rattle.record_text.specs.declared.refusal.RefusalKind.TheVariants.{BadStored
 use Rattle.list_laws.proofs.Lists.{none_left}
 use Rattle.store_tables.proofs.Loops.{item_left}
 use Rattle.past_values.specs.Recalling.{HasRecord, IsValueOf}
-use Rattle.past_values.proofs.Recalled.{all_made, holds_of, one_more}
+use Rattle.past_values.proofs.Made.{all_made, holds_of, one_more}
 use Rattle.past_values.proofs.reading.values_of.Goals as goal
 
 pub rows-preserved : goal.rows-preserved

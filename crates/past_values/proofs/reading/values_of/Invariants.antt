@@ -1,6 +1,6 @@
 use Rattle.std.proofs.Common.{drop}
 use Rattle.past_values.specs.Recalling.{IsValueOf}
-use Rattle.past_values.proofs.Recalled.{SoFar}
+use Rattle.past_values.proofs.Made.{SoFar}
 use Rattle.past_values.proofs.reading.values_of.Given as goal
 
 abbrev pub invariant-rows : goal.invariant-rows

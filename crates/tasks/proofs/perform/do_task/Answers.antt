@@ -254,3 +254,23 @@ returns-in-Show g c =
       refl,
       refl,
     )
+
+pub returns-in-History : goal.returns-in-History
+returns-in-History g c =
+    let did = c.write_history.ensures in
+    rw c.in-History.is (
+      (
+        c.write_history.result,
+        c.plain-in-History.ensures,
+        record {
+          ended = did.ended;
+          unread = did.unread;
+          blamed = did.writer;
+          stays = did.reads;
+          lost = did.lost;
+        },
+      ),
+      refl,
+      refl,
+      refl,
+    )

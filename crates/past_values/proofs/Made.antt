@@ -28,7 +28,7 @@ use Rattle.sqlite.specs.State.{State}
 use Rattle.record_text.specs.declared.refusal.RefusalKind.{RefusalKind}
 use Rattle.record_text.specs.declared.refusal.RefusalKind.TheVariants.{BadStored, OutOfMemory}
 use Rattle.store_tables.specs.Conversion.{EachWith}
-use Rattle.store_tables.specs.Looking.{LooksUnless}
+use Rattle.store_tables.specs.Looking.{Looks, LooksUnless}
 use Rattle.store_tables.specs.Rows.{Rows}
 
 -- ---- one value of each row
@@ -98,4 +98,25 @@ looks_refused Is Reads As All old new kind more looks = record {
   ];
   crash = looks.crash;
   clean = looks.clean;
+}
+
+-- ---- a look after another
+pub looks_both : {A C : Type 0} (P : Rows → A → Type 0) (Reads : Rows → Type 0) (Q : Rows → C → Type 0)
+    (R : Rows → C → Type 0) (old mid new : State) (a : A) (result : Result C RefusalKind)
+    → ((rows : Rows) (c : C) → P rows a → Q rows c → R rows c)
+    → LooksUnless P Reads old mid (Ok a) → Looks Q mid new result → LooksUnless R Reads old new result
+looks_both P Reads Q R old mid new a (Ok c) make first looks = record {
+  read = λ clean rows was. make rows c (first.read (looks.clean clean) rows was)
+      (looks.read clean rows (first.same (looks.clean clean) rows was));
+  same = λ clean rows was. looks.same clean rows (first.same (looks.clean clean) rows was);
+  refused = λ clean. tt;
+  crash = λ clean rows was. looks.crash clean rows (first.same (looks.clean clean) rows was);
+  clean = λ clean. first.clean (looks.clean clean);
+}
+looks_both P Reads Q R old mid new a (Err kind) make first looks = record {
+  read = λ clean. tt;
+  same = λ clean. tt;
+  refused = λ clean rows was. inl (looks.refused clean rows (first.same (looks.clean clean) rows was));
+  crash = λ clean rows was. looks.crash clean rows (first.same (looks.clean clean) rows was);
+  clean = λ clean. first.clean (looks.clean clean);
 }

@@ -1,0 +1,7 @@
+use Rattle.std.proofs.Common.{◌≡◌, ◌++◌, take, string_bytes}
+use Rattle.std.specs.List.{flat_map}
+use Rattle.showing.specs.Carried.{of_child}
+use Rattle.showing.proofs.carrying.push_children.Given as goal
+
+abbrev pub invariant-each : goal.invariant-each
+invariant-each l = string_bytes l.out ≡ string_bytes l.fn.out ++ flat_map of_child (take l.child-index l.children)
