@@ -20,7 +20,9 @@ use Rattle.file_conversion.specs.declared.units.LeftOut.{LeftOut}
 use Rattle.file_conversion.specs.CharLines.{numbers_of, words_of}
 use Rattle.file_conversion.specs.Charsets.{named_by, said}
 use Rattle.file_conversion.specs.Conversion.{file_units, left_out, reason}
-use Rattle.conversion_reports.specs.Lines.{lines_read}
+use Rattle.conversion_reports.specs.declared.kinds.Kind.{Kind}
+use Rattle.conversion_reports.specs.declared.kinds.Kind.TheVariants.{Other, Joined, Stray, Replaced, Marked}
+use Rattle.conversion_reports.specs.Lines.{IsTally, LineRead, count, lines_read, marks}
 use Rattle.conversion_reports.specs.Report.{
   changes,
   char_line,
@@ -28,15 +30,18 @@ use Rattle.conversion_reports.specs.Report.{
   first_number,
   is_added,
   left_lines,
+  line_of_kind,
   mark_count,
   of_lines,
   of_said,
   of_units,
   of_written,
   others,
+  read_lines,
   report_text,
   said_lines,
   set_line,
+  tally_line,
 }
 
 two : (old a b mid new : List ℕ) → mid ≡ old ++ a → new ≡ mid ++ b → new ≡ old ++ (a ++ b)
@@ -50,6 +55,31 @@ left_is s out m old mid new e d n =
     let last : List ℕ = count_line (codes "NUL and Ctrl-Z at the end, left out") out.filling [] in
     two old (count_line (codes "marks at the beginning, left out") m []) last mid new d n
     ∙ ap (λ k. old ++ (count_line (codes "marks at the beginning, left out") k [] ++ last)) e
+
+-- what was counted of a kind is reported as that kind
+counted : (s : CharacterSet) (ls : List LineRead) (kind : Kind) (often : ℕ) (first : List ℕ)
+    → IsTally kind s ls often first → tally_line kind often first ≡ line_of_kind s ls kind
+counted s ls kind often first t = ap (λ n. tally_line kind n first) t.0
+    ∙ ap (λ ns. tally_line kind (count (marks kind s ls)) ns) t.1
+
+pub others_are : (s : CharacterSet) (ls : List LineRead) (often : ℕ) (first old new : List ℕ)
+    → IsTally Other s ls often first → new ≡ old ++ (tally_line Other often [] ++ read_lines s 5 ls)
+    → new ≡ old ++ others s ls
+others_are s ls often first old new t n = n ∙ ap (λ k. old ++ (tally_line Other k [] ++ read_lines s 5 ls)) t.0
+
+pub changes_are : (s : CharacterSet) (ls : List LineRead) (j t r m : ℕ) (js ts rs ms old new : List ℕ)
+    → IsTally Joined s ls j js → IsTally Stray s ls t ts → IsTally Replaced s ls r rs → IsTally Marked s ls m ms
+    → new ≡ old ++ (tally_line Joined j js ++ (tally_line Stray t ts ++ (tally_line Replaced r rs
+    ++ tally_line Marked m ms))) → new ≡ old ++ changes s ls
+changes_are s ls j t r m js ts rs ms old new ej et er em n = n
+    ∙ (ap (λ x. old ++ (x ++ (tally_line Stray t ts ++ (tally_line Replaced r rs ++ tally_line Marked m ms))))
+    (counted s ls Joined j js ej)
+    ∙ (ap (λ x. old ++ (line_of_kind s ls Joined ++ (x ++ (tally_line Replaced r rs ++ tally_line Marked m ms))))
+    (counted s ls Stray t ts et)
+    ∙ (ap (λ x. old ++ (line_of_kind s ls Joined ++ (line_of_kind s ls Stray ++ (x ++ tally_line Marked m ms))))
+    (counted s ls Replaced r rs er)
+    ∙ ap (λ x. old ++ (line_of_kind s ls Joined ++ (line_of_kind s ls Stray ++ (line_of_kind s ls Replaced ++ x))))
+    (counted s ls Marked m ms em))))
 
 pub written_is : (s : CharacterSet) (added : Bool) (first : ℕ) (told : List ℕ) (old mid new : List ℕ)
     → first ≡ first_number added → mid ≡ old ++ others s (lines_read s first [] (lines told))

@@ -32,6 +32,7 @@ use Rattle.character_sets.specs.Sets.{characters}
 use Rattle.character_sets.specs.Lines.{Line, is_blank}
 use Rattle.character_sets.specs.Moves.{left_over, moved}
 use Rattle.file_conversion.specs.Conversion.{is_ascii, next_number}
+use Rattle.conversion_reports.specs.declared.kinds.Counts.{Counts}
 use Rattle.conversion_reports.specs.declared.kinds.Kind.{Kind}
 use Rattle.conversion_reports.specs.declared.kinds.Kind.TheVariants.{Other, Joined, Stray, Replaced, Marked}
 
@@ -101,6 +102,16 @@ measure Stray set joins units = strays_in set units
 measure Replaced set joins units = replacements (line_text set units)
 measure Marked set joins units = marked_in set units
 
+-- how often each kind is in a line
+abbrev pub counts_of : CharacterSet → Bool → List ℕ → Counts
+counts_of set joins units = record {
+  other = measure Other set joins units;
+  joined = measure Joined set joins units;
+  stray = measure Stray set joins units;
+  replaced = measure Replaced set joins units;
+  marked = measure Marked set joins units;
+}
+
 -- ---- what is counted of lines
 -- the number of each line, and how often a kind is in it
 abbrev pub marks : Kind → CharacterSet → List LineRead → List (ℕ × ℕ)
@@ -125,6 +136,10 @@ count ms = min (total ms) most_counted
 abbrev pub first_places : List (ℕ × ℕ) → List ℕ
 first_places ms = take 5 (places ms)
 
+-- how often a kind is in lines, and which of them have it first
+abbrev pub IsTally : Kind → CharacterSet → List LineRead → ℕ → List ℕ → Type 0
+IsTally kind set ls often first = (often ≡ count (marks kind set ls)) × (first ≡ first_places (marks kind set ls))
+
 -- ---- by steps
 -- the first five lines with one more, which has it so often
 abbrev pub with_line : List ℕ → ℕ → ℕ → List ℕ
@@ -136,3 +151,12 @@ pub record Leads (so_far : ℕ) (first : List ℕ) (rest all : List (ℕ × ℕ)
   pub counts : min (so_far + total rest) most_counted ≡ count all
   pub few : length first ≤ 5
   pub begins : take 5 (first ++ places rest) ≡ first_places all
+
+-- one more line of this number, which has it so often
+abbrev pub IsOneMore : ℕ → List ℕ → ℕ → ℕ → ℕ → List ℕ → Type 0
+IsOneMore so_far first n often now next = (now ≡ min (so_far + often) most_counted) × (next ≡ with_line first n often)
+
+-- what was counted of a kind before and after the first of these lines
+abbrev pub Goes : Kind → CharacterSet → ℕ → List ℕ → List LineRead → ℕ → List ℕ → List LineRead → Type 0
+Goes kind set so_far first ls now next more = (all : List (ℕ × ℕ)) → Leads so_far first (marks kind set ls) all
+    → Leads now next (marks kind set more) all

@@ -127,6 +127,10 @@ label_of Stray = codes "bytes that are no UTF-8, read as Windows-1252"
 label_of Replaced = codes "U+FFFD, for what could not be read"
 label_of Marked = codes "marks of ANSEL before what is no letter"
 
+-- what was counted of a kind
+abbrev pub tally_line : Kind → ℕ → List ℕ → List ℕ
+tally_line kind often first = count_line (label_of kind) often first
+
 abbrev pub line_of_kind : CharacterSet → List LineRead → Kind → List ℕ
 line_of_kind s ls kind = kind_line (label_of kind) (marks kind s ls)
 

@@ -5,11 +5,11 @@ ghost use Rattle.std.specs.List.{list_all};
 ghost use Rattle.character_sets.specs.Counts.{one_if as one_if_of};
 ghost use Rattle.file_conversion.specs.Conversion.{is_ascii as is_ascii_of};
 ghost use Rattle.conversion_reports.specs.Lines.{
+  counts_of,
   has_others as has_others_of,
   is_replacement as is_replacement_of,
   line_text as line_text_of,
   marked_in as marked_in_of,
-  measure as measure_of,
   replacements as replacements_of,
   strays_in as strays_in_of,
 };
@@ -32,26 +32,34 @@ pub(crate) enum Kind {
     Marked,
 }
 
-/// How often a kind is in a line, whose value `joins` if it begins with units of the line before.
-pub(crate) fn measure(
+/// How often each kind is in a line.
+#[derive(Clone, Copy, Debug, PartialEq, Eq)]
+pub(crate) struct Counts {
+    pub(crate) other: usize,
+    pub(crate) joined: usize,
+    pub(crate) stray: usize,
+    pub(crate) replaced: usize,
+    pub(crate) marked: usize,
+}
+
+/// How often each kind is in a line, whose value `joins` if it begins with units of the line before.
+pub(crate) fn counts_in(
     alloc: Global,
-    kind: Kind,
     set: CharacterSet,
     joins: bool,
     units: &[u16],
-) -> Result<usize, AllocError>
-    ensures { IfOk result (λ n. n ≡ measure_of kind set joins units.now) }
+) -> Result<Counts, AllocError>
+    ensures { IfOk result (λ n. n ≡ counts_of set joins units.now) }
 {
-    match kind {
-        Kind::Other => {
-            let found = has_others(alloc, set, units)?;
-            Ok(one_if(found))
-        }
-        Kind::Joined => Ok(one_if(joins)),
-        Kind::Stray => Ok(strays_in(set, units)),
-        Kind::Replaced => replaced_in(alloc, set, units),
-        Kind::Marked => Ok(marked_in(set, units)),
-    }
+    let text = line_text(alloc, set, units)?;
+    let bytes = text.as_bytes();
+    Ok(Counts {
+        other: one_if(!are_ascii(bytes)),
+        joined: one_if(joins),
+        stray: strays_in(set, units),
+        replaced: replacements(bytes),
+        marked: marked_in(set, units),
+    })
 }
 
 pub(crate) fn one_if(is_so: bool) -> usize
@@ -108,14 +116,6 @@ fn marked_in(set: CharacterSet, units: &[u16]) -> usize
         CharacterSet::Ansel => marked_others(units),
         _ => 0,
     }
-}
-
-/// How often U+FFFD is in a line.
-fn replaced_in(alloc: Global, set: CharacterSet, units: &[u16]) -> Result<usize, AllocError>
-    ensures { IfOk result (λ n. n ≡ replacements_of (line_text_of set units.now)) }
-{
-    let text = line_text(alloc, set, units)?;
-    Ok(replacements(text.as_bytes()))
 }
 
 /// How often U+FFFD is in a text.

@@ -4,22 +4,21 @@ ghost use Rattle.std.specs.Prelude.{◌≡◌, ◌++◌, ◌≤◌, ◌<◌, [],
 ghost use Rattle.character_sets.specs.Lines.{lines};
 ghost use Rattle.conversion_reports.specs.Lines.{has_others as has_others_of, lines_read};
 ghost use Rattle.conversion_reports.specs.Report.{
-  changes,
   first_number as first_number_of,
   label_of,
   left_if,
-  line_of_kind,
   of_written,
-  others,
   read_lines,
   read_text,
+  tally_line,
   text_if,
 };
+ghost use Rattle.conversion_reports.specs.declared.kinds.Kind.TheVariants.{Other, Joined, Stray, Replaced, Marked};
 
 use crate::kinds::{Kind, has_others, line_text};
 use crate::pushes::{push, push_count, push_number, push_shown};
 use crate::reading::{Next, next_line};
-use crate::tallies::tally_of;
+use crate::tallies::{Tallies, Tally, tallies_of};
 use character_sets::CharacterSet;
 use std::alloc::{AllocError, Global};
 
@@ -44,8 +43,9 @@ pub(crate) fn push_written(
     ensures { OnOk result (out.new.items ≡ out.old.items ++ of_written set is_added told.now) }
 {
     let first = first_number(is_added);
-    push_others(alloc, out, set, first, told)?;
-    push_changes(alloc, out, set, first, told)?;
+    let found = tallies_of(alloc, set, first, told)?;
+    push_others(alloc, out, set, first, told, found.other.count)?;
+    push_changes(alloc, out, &found)?;
     Ok(())
 }
 
@@ -56,30 +56,28 @@ fn push_others(
     set: CharacterSet,
     first: usize,
     told: &[u16],
+    count: usize,
 ) -> Result<(), AllocError>
     requires { first ≤ 1 }
-    ensures { OnOk result (out.new.items ≡ out.old.items ++ others set (lines_read set first [] (lines told.now))) }
+    ensures { OnOk result (out.new.items ≡ out.old.items ++ (tally_line Other count []
+        ++ read_lines set 5 (lines_read set first [] (lines told.now)))) }
 {
-    let found = tally_of(alloc, Kind::Other, set, first, told)?;
-    push_count(alloc, out, label(Kind::Other), found.count, &[])?;
+    push_count(alloc, out, label(Kind::Other), count, &[])?;
     push_lines(alloc, out, set, first, told)
 }
 
 /// Adds what is not as it was read.
-fn push_changes(
-    alloc: Global,
-    out: &mut Vec<u8>,
-    set: CharacterSet,
-    first: usize,
-    told: &[u16],
-) -> Result<(), AllocError>
-    requires { first ≤ 1 }
-    ensures { OnOk result (out.new.items ≡ out.old.items ++ changes set (lines_read set first [] (lines told.now))) }
+fn push_changes(alloc: Global, out: &mut Vec<u8>, found: &Tallies) -> Result<(), AllocError>
+    ensures { OnOk result (out.new.items ≡ out.old.items
+        ++ (tally_line Joined found.now.joined.count found.now.joined.first.items
+        ++ (tally_line Stray found.now.stray.count found.now.stray.first.items
+        ++ (tally_line Replaced found.now.replaced.count found.now.replaced.first.items
+        ++ tally_line Marked found.now.marked.count found.now.marked.first.items)))) }
 {
-    push_kind(alloc, out, Kind::Joined, set, first, told)?;
-    push_kind(alloc, out, Kind::Stray, set, first, told)?;
-    push_kind(alloc, out, Kind::Replaced, set, first, told)?;
-    push_kind(alloc, out, Kind::Marked, set, first, told)
+    push_tally(alloc, out, Kind::Joined, &found.joined)?;
+    push_tally(alloc, out, Kind::Stray, &found.stray)?;
+    push_tally(alloc, out, Kind::Replaced, &found.replaced)?;
+    push_tally(alloc, out, Kind::Marked, &found.marked)
 }
 
 fn label(kind: Kind) -> &'static str
@@ -94,20 +92,11 @@ fn label(kind: Kind) -> &'static str
     }
 }
 
-/// Adds how often a kind is in lines, of which the first has this number.
-fn push_kind(
-    alloc: Global,
-    out: &mut Vec<u8>,
-    kind: Kind,
-    set: CharacterSet,
-    first: usize,
-    told: &[u16],
-) -> Result<(), AllocError>
-    requires { first ≤ 1 }
-    ensures { OnOk result (out.new.items
-        ≡ out.old.items ++ line_of_kind set (lines_read set first [] (lines told.now)) kind) }
+/// Adds how often a kind is in lines, and which of them have it first.
+fn push_tally(alloc: Global, out: &mut Vec<u8>, kind: Kind, found: &Tally) -> Result<(), AllocError>
+    ensures { OnOk result (out.new.items ≡ out.old.items
+        ++ tally_line kind found.now.count found.now.first.items) }
 {
-    let found = tally_of(alloc, kind, set, first, told)?;
     push_count(alloc, out, label(kind), found.count, &found.first)
 }
 

@@ -146,6 +146,11 @@ next_place Start head = if is_head head then Below else Beyond
 next_place Below head = if is_top head then Beyond else Below
 next_place Beyond head = Beyond
 
+-- the first HEAD has ended, or there is none
+abbrev pub is_beyond : Place → Bool
+is_beyond Beyond = true
+is_beyond _ = false
+
 -- a line CHAR of the first HEAD
 abbrev pub is_told : Place → Option LineHead → Bool
 is_told Start head = false

@@ -12,7 +12,7 @@ ghost use Rattle.file_conversion.specs.CharLines.{
   words_of,
 };
 
-use crate::charsets::{Place, is_told, next_place, trimmed, word_of};
+use crate::charsets::{Place, is_beyond, is_told, next_place, trimmed, word_of};
 use character_sets::{LineHead, first_line, is_blank, line_head};
 use std::alloc::{AllocError, Global};
 
@@ -38,6 +38,9 @@ pub fn char_lines(alloc: Global, units: &[u16]) -> Result<CharLines, AllocError>
     let mut place = Place::Start;
     let mut line = 1usize;
     'lines: while !rest.is_empty() {
+        if is_beyond(place) {
+            return Ok(found);
+        }
         let cut = first_line(rest);
         if !is_blank(cut.body) {
             push_line(alloc, &mut found, place, line, cut.body)?;

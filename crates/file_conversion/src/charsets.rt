@@ -5,6 +5,7 @@ ghost use Rattle.character_sets.specs.Lines.{is_white as is_white_of};
 ghost use Rattle.std.specs.List.{suffix_len};
 ghost use Rattle.file_conversion.specs.Charsets.{
   agreed as agreed_of,
+  is_beyond as is_beyond_of,
   is_char as is_char_of,
   is_char_tag as is_char_tag_of,
   is_head as is_head_of,
@@ -74,6 +75,16 @@ pub(crate) fn next_place(place: Place, head: Option<LineHead>) -> Place
             }
         }
         Place::Beyond => Place::Beyond,
+    }
+}
+
+/// Whether the first HEAD has ended, or there is none: no later line is a CHAR of it.
+pub(crate) fn is_beyond(place: Place) -> bool
+    ensures { result ≡ is_beyond_of place }
+{
+    match place {
+        Place::Beyond => true,
+        _ => false,
     }
 }
 

@@ -13,7 +13,9 @@ ghost use Rattle.file_conversion.specs.Charsets.{
 };
 ghost use Rattle.file_conversion.specs.declared.charsets.Place.TheVariants.{Start, Below};
 
-use crate::charsets::{NamedSet, Place, Reading, is_char, is_head, named_with, next_place};
+use crate::charsets::{
+    NamedSet, Place, Reading, is_beyond, is_char, is_head, named_with, next_place,
+};
 use character_sets::{Cut, first_line, is_blank, line_head};
 use std::alloc::{AllocError, Global};
 
@@ -28,6 +30,9 @@ pub fn named_by(alloc: Global, units: &[u16]) -> Result<Option<NamedSet>, AllocE
         line: 1,
     };
     'lines: while !rest.is_empty() {
+        if is_beyond(reading.place) {
+            return Ok(reading.named);
+        }
         let cut = first_line(rest);
         reading = after_line(alloc, reading, cut.body)?;
         rest = cut.rest;
@@ -61,6 +66,10 @@ pub fn said(alloc: Global, units: &[u16], named: Option<NamedSet>) -> Result<Vec
     let mut rest = units;
     let mut place = Place::Start;
     'lines: while !rest.is_empty() {
+        if is_beyond(place) {
+            all.extend_from_slice(rest)?;
+            return Ok(all);
+        }
         let cut = first_line(rest);
         place = push_next(&mut all, named, place, cut)?;
         rest = cut.rest;

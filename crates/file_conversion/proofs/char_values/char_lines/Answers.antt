@@ -2,7 +2,16 @@ use Rattle.std.proofs.Common.{◌∙◌, ◌<◌, ◌++◌, ap, arith, length, r
 use Rattle.std.proofs.lemmas.List.{append-nil}
 use Rattle.file_conversion.specs.CharLines.{numbers_in, words_in}
 use Rattle.character_sets.proofs.FirstLines.{none}
+use Rattle.file_conversion.proofs.Beyond.{numbers_beyond, words_beyond}
 use Rattle.file_conversion.proofs.char_values.char_lines.Goals as goal
+
+pub returns-then-is_beyond-clause-changed : goal.returns-then-is_beyond-clause-changed
+returns-then-is_beyond-clause-changed c =
+    numbers_beyond _ _ _ _ _ (sym c.is_beyond.ensures ∙ c.if-is_beyond.true) c.lines.invariant.changed
+
+pub returns-then-is_beyond-clause-words : goal.returns-then-is_beyond-clause-words
+returns-then-is_beyond-clause-words c =
+    words_beyond _ _ _ _ (sym c.is_beyond.ensures ∙ c.if-is_beyond.true) c.lines.invariant.words
 
 pub returns-clause-changed : goal.returns-clause-changed
 returns-clause-changed c = let h : length c.lines.rest.now < 1 = first_of (search rules, grind arith) in

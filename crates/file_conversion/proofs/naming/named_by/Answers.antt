@@ -2,7 +2,12 @@ use Rattle.std.proofs.Common.{◌∙◌, ◌<◌, ap, arith, length, rules, sym}
 use Rattle.character_sets.specs.Lines.{lines}
 use Rattle.file_conversion.specs.Charsets.{named_in}
 use Rattle.character_sets.proofs.FirstLines.{none}
+use Rattle.file_conversion.proofs.Beyond.{named_beyond}
 use Rattle.file_conversion.proofs.naming.named_by.Goals as goal
+
+pub returns-then-is_beyond : goal.returns-then-is_beyond
+returns-then-is_beyond c =
+    named_beyond _ _ _ _ _ (sym c.is_beyond.ensures ∙ c.if-is_beyond.true) c.lines.invariant.named
 
 pub lines-preserved : goal.lines-preserved
 lines-preserved c = record {
