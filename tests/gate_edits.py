@@ -45,7 +45,7 @@ fn last() -> u32 {
 # the old text and the new one, and the function that changes
 EDITS = (
     ("self.pages\n", "self.pages + 1\n", "books::kept::Register::pages"),
-    ('f.write_str("register")', 'f.write_str("")', None),
+    ('f.write_str("register")', 'f.write_str("")', "books::kept::RegisterDisplay::fmt"),
     ("number == 0", "number == 1", "books::kept::is_page"),
     ("        return false;\n    }\n    true", "        return true;\n    }\n    false", "books::kept::is_page"),
     ("    true\n}\n\nfn last() -> u32 {\n    2", "    false\n}\n\nfn last() -> u32 {\n    3", None),

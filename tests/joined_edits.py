@@ -112,9 +112,9 @@ def goal_of(edit: Edit, said: str) -> str | None:
     for found in re.finditer(r"^note: (src/\S+?):(\d+):\d+: (.*not proved.*)$", said, re.M):
         if found[1] == edit.file and edit.first <= int(found[2]) <= edit.last:
             return found[0]
-    module = edit.file.removeprefix("src/").removesuffix(".rt").removesuffix("/mod")
-    proofs = r"(?:[\w/]+/)?" if module in ("lib", "main") else rf"{re.escape(module)}/(?:\w+/)*"
-    for found in re.finditer(rf"^\./proofs/{proofs}{edit.function}/\w+\.antt:\d+:\d+: error: .*$", said, re.M):
+    *within, function = edit.path.split("::")
+    proofs = "".join(f"{it}/" for it in within) + rf"\+?{function}"
+    for found in re.finditer(rf"^\./proofs/{proofs}/\w+\.antt:\d+:\d+: error: .*$", said, re.M):
         if not NAMES.search(found[0]):
             return found[0]
     return None

@@ -12,8 +12,8 @@ Each proof, run and test is that of `rt ci`, and so is its status; an `rt` that 
   each is about two hours of one processor. Both answers depend only on crates.txt and the sources, so they are
   remembered; the run fails where one of these files differs at its end from what it was at its beginning.
 - It tries an edit by a check of the whole crate, and before two edits of one crate it checks the crate once more. Here
-  the function that the edit changes is checked first, with what it calls (`--only`), each edit by itself: if that is
-  not proved, the crate is not. Any other edit is tried as by `rt ci`.
+  the functions that the edit changes, or that use a constant which it changes, are checked first, with what they call
+  (`--only`), each edit by itself: if one is not proved, the crate is not. Any other edit is tried as by `rt ci`.
 - It expects a check of a large crate to take two to four times the memory that was measured, and lets processors
   wait for it. Here it expects half of that, and 0.5 GB.
 """
@@ -29,7 +29,7 @@ import re
 import shutil
 import sys
 
-from changed_functions import changed_function
+from changed_functions import changed_functions
 from kept_proofs import KeptProofs
 
 sys.dont_write_bytecode = True
@@ -75,10 +75,10 @@ def remembered(answer):
     return once
 
 
-def goals(lines: list[str], crate: str, path: str) -> list[str]:
-    """What a check of some functions says of the one at the path where it is not proved; else nothing."""
+def goals(lines: list[str], crate: str, paths: list[str]) -> list[str]:
+    """What a check of some functions says of those at the paths where one is not proved; else nothing."""
     counts = re.fullmatch(r"only=(\d+) proved=(\d+)", lines[-1])
-    unproved = (f"fn {crate}::{path}: not proved", f"fn {crate}::{path}: no proof")
+    unproved = tuple(f"fn {crate}::{path}: {how}" for path in paths for how in ("not proved", "no proof"))
     if not counts or counts[1] == counts[2] or not any(it.startswith(unproved) for it in lines):
         return []
     return [it for it in lines if re.match(r"note: \S+:\d+:\d+: .*not proved|\./proofs/\S+:\d+:\d+: error", it)]
@@ -90,18 +90,18 @@ def refused_kinds(module) -> tuple:
 
 
 def refused_in_part(module, crate, edit: str, flags: list[str], kept=None) -> str | None:
-    """Why the function that an edit changes is not proved. None: it is, or the whole crate has to be tried."""
+    """Why a function that an edit changes is not proved. None: all are, or the whole crate has to be tried."""
     texts, why = module.read_edit(edit, crate.folder)
-    path = None if why else changed_function(texts, crate.folder)
-    if path is None:
+    paths = [] if why else changed_functions(texts, crate.folder)
+    if not paths:
         return None
-    ran = module.checked(crate, texts, [*flags, "--only", path], kept)
+    ran = module.checked(crate, texts, [*flags, *(it for path in paths for it in ("--only", path))], kept)
     lines = ran.stdout.rstrip("\n").split("\n")
     if ran.returncode != 1 or module.rtlib.STALE.search(ran.stdout) or any(module.unread(it, texts) for it in lines):
         return None
     # (a proof file that names what the edit took away says nothing of the contract)
     names = r"(\./)?proofs/.*(has no field|is not in scope|has no `|was not admitted)"
-    return next((it for it in goals(lines, crate.name, path) if not re.match(names, it)), None)
+    return next((it for it in goals(lines, crate.name, paths) if not re.match(names, it)), None)
 
 
 def tried(module, store: KeptProofs | None = None):
