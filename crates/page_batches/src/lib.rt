@@ -10,12 +10,14 @@
 
 mod digest;
 mod looks;
+mod making;
 mod places;
 mod rows;
 mod words;
 
 pub use digest::page_digest;
 pub use looks::places_on;
+pub use making::{PageNews, news_on};
 pub use places::Places;
 pub use rows::{BatchRefusal, row_place, rows_with, unplaced};
 pub use words::{count_words, numbers_of};

@@ -56,7 +56,7 @@ fn places_of<V: View>(
 }
 
 /// Adds what was found after the others.
-fn push(
+pub(crate) fn push(
     all: &mut Vec<Result<Option<u32>, RefusalKind>>,
     found: Result<Option<u32>, RefusalKind>,
 ) -> Result<(), AllocError>
@@ -67,7 +67,7 @@ fn push(
 }
 
 /// The number of the place that an entry names, if it names one; or why there is none.
-fn maybe_number<V: View>(
+pub(crate) fn maybe_number<V: View>(
     alloc: Global,
     view: &mut V,
     place: &Option<PagePlace>,
@@ -120,7 +120,7 @@ fn or_none(number: Option<u32>) -> Result<Option<u32>, RefusalKind>
 }
 
 /// The lowest place of a path.
-fn at_path<V: View>(
+pub(crate) fn at_path<V: View>(
     alloc: Global,
     view: &mut V,
     path: &Field,
