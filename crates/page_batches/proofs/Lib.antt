@@ -1,1 +1,2 @@
+pub mod Hexed
 pub mod OnTheWay

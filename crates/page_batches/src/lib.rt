@@ -12,6 +12,7 @@ mod digest;
 mod looks;
 mod making;
 mod places;
+mod placing;
 mod rows;
 mod words;
 
@@ -19,5 +20,6 @@ pub use digest::page_digest;
 pub use looks::places_on;
 pub use making::{PageNews, news_on};
 pub use places::Places;
+pub use placing::{parent_on, place_token};
 pub use rows::{BatchRefusal, row_place, rows_with, unplaced};
 pub use words::{count_words, numbers_of};

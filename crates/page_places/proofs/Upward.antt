@@ -25,7 +25,7 @@ use Rattle.std.proofs.Common.{
 use Rattle.std.proofs.lemmas.Bool.Decides.{nat_tests}
 use Rattle.field_rows.specs.Cuts.{Without}
 use Rattle.list_laws.proofs.Numbers.{is_not}
-use Rattle.page_places.specs.Ways.{above, past_space}
+use Rattle.page_places.specs.Ways.{above, name_of, past_space}
 
 rest_without : (b : ℕ) (bs : List ℕ) → Without 44 (b ∷ bs) → Without 44 bs
 rest_without b bs h = λ i less. h (suc i) (omega arith)
@@ -62,6 +62,22 @@ above_cut t part after over e h o = ap above e
 pub above_none : (t : List ℕ) → Without 44 t → above t ≡ []
 above_none [] h = refl
 above_none (b ∷ bs) h = first_passed b bs h ∙ above_none bs (rest_without b bs h)
+
+name_passed : (b : ℕ) (bs : List ℕ) → (b == 44) ≡ false → name_of (b ∷ bs) ≡ b ∷ name_of bs
+name_passed b bs e = ap (λ (is : Bool). cond is [] (b ∷ name_of bs)) e
+
+name_before : (part after : List ℕ) → Without 44 part → name_of (part ++ (44 ∷ after)) ≡ part
+name_before [] after h = refl
+name_before (b ∷ bs) after h = name_passed b (bs ++ (44 ∷ after)) (is_not b 44 (h 0 (omega arith)))
+    ∙ ap (λ ns. b ∷ ns) (name_before bs after (rest_without b bs h))
+
+pub name_cut : (t part after : List ℕ) → t ≡ part ++ (44 ∷ after) → Without 44 part → part ≡ name_of t
+name_cut t part after e h = sym (ap name_of e ∙ name_before part after h)
+
+pub name_whole : (t : List ℕ) → Without 44 t → t ≡ name_of t
+name_whole [] h = refl
+name_whole (b ∷ bs) h = ap (λ ns. b ∷ ns) (name_whole bs (rest_without b bs h))
+    ∙ sym (name_passed b bs (is_not b 44 (h 0 (omega arith))))
 
 not_longer : (bs : List ℕ) → length (past_space bs) < length bs + 1
 not_longer [] = omega arith

@@ -12,6 +12,11 @@ abbrev pub above : List ℕ → List (List ℕ)
 above [] = []
 above (b ∷ bs) = if b == 44 then past_space bs ∷ above bs else above bs
 
+-- the name of the place itself: what is before the first comma
+abbrev pub name_of : List ℕ → List ℕ
+name_of [] = []
+name_of (b ∷ bs) = if b == 44 then [] else b ∷ name_of bs
+
 -- the place itself has no name: nothing is before the first comma
 abbrev pub is_unnamed : List ℕ → Bool
 is_unnamed [] = true

@@ -12,3 +12,4 @@ mod news;
 mod ways;
 
 pub use news::{News, news_for};
+pub use ways::{above, place_name};

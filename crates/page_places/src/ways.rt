@@ -5,7 +5,7 @@ ghost use Rattle.field_rows.specs.Cuts.{Without};
 ghost use Rattle.page_places.specs.Ways as ways;
 
 /// The path of the place above, of a path that is normal. `None`: it is at the top.
-pub(crate) fn above(path: &str) -> Option<&str>
+pub fn above(path: &str) -> Option<&str>
     ensures above { MatchOption result (ways.above path.now ≡ [])
         (λ over. ways.above path.now ≡ over.now ∷ ways.above over.now) }
     ensures shorter { IfSome result (λ over. length over.now < length path.now) }
@@ -13,6 +13,16 @@ pub(crate) fn above(path: &str) -> Option<&str>
     match cut(path) {
         Some((_, after)) => Some(past_space(after)),
         None => None,
+    }
+}
+
+/// The name of the place itself, of a path that is normal.
+pub fn place_name(path: &str) -> &str
+    ensures { result.now ≡ ways.name_of path.now }
+{
+    match cut(path) {
+        Some((name, _)) => name,
+        None => path,
     }
 }
 
