@@ -5,3 +5,5 @@ mod Shown
 pub mod Entered
 pub mod PageLooked
 mod RowsEntered
+mod Placed
+mod Tried

@@ -114,12 +114,18 @@ fn answered(
 {
     match outcome {
         Ok(answer) => Ok(answer),
-        Err(Refusal { kind, at }) => {
-            let mut refusal = unplaced(alloc, kind);
-            refusal.refusal.at = sheet_row(&numbers, at);
-            Err(refusal)
-        }
+        Err(refusal) => Err(of_sheet(alloc, &numbers, refusal)),
     }
+}
+
+/// A refusal of a batch, with the row of the sheet. Takes no memory.
+pub(crate) fn of_sheet(alloc: Global, numbers: &[usize], refusal: Refusal) -> BatchRefusal
+    ensures { result ≡ entering.of_sheet numbers.now refusal }
+{
+    let Refusal { kind, at } = refusal;
+    let mut refusal = unplaced(alloc, kind);
+    refusal.refusal.at = sheet_row(numbers, at);
+    refusal
 }
 
 /// The row of the sheet that a row of the batch is, which is counted from 1.

@@ -18,15 +18,18 @@
 mod checking;
 mod entering;
 mod looking;
+mod making;
 mod remembering;
 mod request;
 mod row_batches;
 mod sources;
+mod trying;
 mod whole;
 mod writing;
 
 pub use checking::{PageFound, write_check};
 pub use entering::{PageEnd, enter_page};
+pub use making::{MadePlace, enter_with_places};
 pub use remembering::write_history;
 pub use row_batches::enter;
 pub use writing::{write_list, write_shown};

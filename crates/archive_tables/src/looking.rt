@@ -122,7 +122,7 @@ fn settled_looks(found: Result<Places, RefusalKind>) -> Result<Places, RefusalKi
 }
 
 /// What looks that did not lose the archive are refused with: never 80.
-fn unbroken(kind: RefusalKind) -> RefusalKind
+pub(crate) fn unbroken(kind: RefusalKind) -> RefusalKind
     ensures stops { is_stop kind ≡ true → is_failure kind ≡ false → result ≡ OutOfMemory }
     ensures same { is_stop kind ≡ false → result ≡ kind }
     ensures kept { is_storage result ≡ false }
