@@ -8,7 +8,8 @@ functions has an edit refuses each of them on its own: an edit counts as refused
 function is not proved. Only these functions are checked, with what they call (`--only`). Edits of one function are
 tried in turns, an edit that changes more than one body is tried as the gate does (rt_ci.py), and so is one that no
 turn decided (a function is not looked at while what it calls is not proved). `--gate` takes those of the crates'
-folders must-fail too. Each crate has a line at its end; the last line is `N passed, M failed`.
+folders must-fail too. What is refused is printed after each turn; each crate has a line at its end, and the last line
+is `N passed, M failed`.
 
 Libraries below the crates are those that the gate keeps, or are proved first.
 """
@@ -159,6 +160,8 @@ class Trial:
             if not turn:
                 break
             found.update(now := self.decided(turn))
+            for name, goal in sorted(now.items()):
+                print(f"joined {self.crate.name}/{name}: refused, as it must be: {goal[:160]}", flush=True)
             left = [it for it in left if it.name not in now]
             if len(now) < len(turn) / 3:
                 break
@@ -174,8 +177,6 @@ def try_crate(module, crate, with_gate: bool, jobs: int):
         paths.update({it: os.path.join(gate, it) for it in sorted(os.listdir(gate)) if it.endswith(".edit")})
     joined = [it for path in paths.values() if (it := placed(path, crate.folder))]
     found = Trial(module, crate, jobs).refused(joined)
-    for name, goal in sorted(found.items()):
-        print(f"joined {crate.name}/{name}: refused, as it must be: {goal[:160]}", flush=True)
     failed = 0
     for name in sorted(paths.keys() - found.keys()):
         kind, text = module.must_fail(crate, paths[name], ["--jobs", str(jobs)])
