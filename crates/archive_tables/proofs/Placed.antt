@@ -202,27 +202,30 @@ module _ {S : Type 0} (g : Ghosts S) (token : List ℕ) where
       }
 
   pub not_made : (paths : List (List ℕ)) (n : ℕ) (made : List MadePlace) (old mid new : Archive S g)
-      (path said : List ℕ) (e : Refusal) → path ≡ get_or paths n path → said ≡ path
+      (path said : List ℕ) (e : Refusal) → n < length paths → path ≡ get_or paths n path → said ≡ path
       → HasMade g token paths n made old mid → MakesPlace g token said mid (Err e) new
       → IsStopped g token paths made old e new
-  not_made paths n made old mid new path said e is same has makes = record {
+  not_made paths n made old mid new path said e less is same has makes = record {
     mid = mid;
     n = n;
     path = path;
     before = has;
+    within = less;
     is = is;
     why = inl (subst (λ (p : List ℕ). MakesPlace g token p mid (Err e) new) same makes);
   }
 
   pub not_added : (paths : List (List ℕ)) (n : ℕ) (made more : List MadePlace) (old mid new : Archive S g)
-      (path said : List ℕ) (answer : Answer) → path ≡ get_or paths n path → said ≡ path → more ≡ made
+      (path said : List ℕ) (answer : Answer) → n < length paths → path ≡ get_or paths n path → said ≡ path
+      → more ≡ made
       → HasMade g token paths n made old mid → MakesPlace g token said mid (Ok answer) new
       → IsStopped g token paths more old (record { kind = OutOfMemory; at = None }) new
-  not_added paths n made more old mid new path said answer is same kept has makes = record {
+  not_added paths n made more old mid new path said answer less is same kept has makes = record {
     mid = mid;
     n = n;
     path = path;
     before = subst (λ (ms : List MadePlace). HasMade g token paths n ms old mid) (sym kept) has;
+    within = less;
     is = is;
     why = inr (refl, answer, subst (λ (p : List ℕ). MakesPlace g token p mid (Ok answer) new) same makes);
   }

@@ -3,6 +3,7 @@
 use Rattle.std.specs.Prelude.{
   ◌≡◌,
   ◌⊎◌,
+  ◌<◌,
   ℕ,
   true,
   false,
@@ -143,6 +144,7 @@ module _ {S : Type 0} (g : Ghosts S) (token : List ℕ) where
     pub n : ℕ
     pub path : List ℕ
     pub before : HasMade paths n made old mid
+    pub within : n < length paths
     pub is : path ≡ get_or paths n path
     pub why : MakesPlace path mid (Err e) new
         ⊎ ((e ≡ record { kind = OutOfMemory; at = None }) × (answer : Answer) × MakesPlace path mid (Ok answer) new)

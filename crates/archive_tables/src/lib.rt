@@ -6,6 +6,7 @@
 //!   whoever keeps the archive, so nothing is masked.
 //! - `entering`, `looking`, `request`, `row_batches`: pages and rows of register entries, entered on an archive that is
 //!   open.
+//! - `making`, `trying`: the places that a page lacks, made before it is entered.
 //!
 //! Callers may rely on:
 //! - to write a list, records, a history or a check changes nothing in the archive; nothing is written unless all that
@@ -13,6 +14,8 @@
 //! - a page is read, its places are looked for, and one request makes all its entries or none. What it makes is a
 //!   function of the cells, the order of dates, the source and the places of the archive; if the page, a place or a row
 //!   is refused the archive stays as it was.
+//! - places are made for a page only where the archive would take it with them; those that were made stay, whatever
+//!   comes after.
 #![tactic(auto)]
 
 mod checking;
