@@ -25,6 +25,7 @@ mod LinksNodes
 mod RootRecords
 mod Going
 mod Rooted
+mod RootNumbers
 mod Agreeing
 mod Finding
 mod Settling

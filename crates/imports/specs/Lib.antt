@@ -6,4 +6,5 @@ pub mod Drafts
 pub mod Drawing
 pub mod Firsts
 pub mod Results
+pub mod RootNumbers
 pub mod Imports

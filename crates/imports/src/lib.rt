@@ -8,6 +8,7 @@
 //! - `batch`, `reading`, `reports`: what a forest makes of an archive: the batch of its records, and the report.
 //! - `import`, `laws`: the import of a forest: what it looks at over a view, how it is refused, and which records it
 //!   makes.
+//! - `numbers`: the numbers that an import would give the nodes that become records.
 //!
 //! Callers may rely on:
 //! - each entry is looked for once among the keys of those before it.
@@ -28,6 +29,7 @@ mod import;
 mod keys;
 pub mod laws;
 mod lists;
+mod numbers;
 mod reading;
 mod reports;
 mod roots;
@@ -35,4 +37,5 @@ mod seconds;
 
 pub use batch::{batch_of, report_of};
 pub use import::{decide_import, tell_forest};
+pub use numbers::root_numbers;
 pub use roots::{draw_drafts, draw_root};
