@@ -12,7 +12,8 @@ from dataclasses import dataclass
 
 SOURCES = "crates/command_line/src"
 WORD = re.compile(
-    r'const (\w+): Word = Word \{\n    id: "(\w+)",\n    help: ("[^"]*"|\w+),\n    form: Form::(\w+)(?:\("([^"]*)"\))?,'
+    r'const (\w+): Word = Word \{\n    id: "([\w-]+)",\n    help: ("[^"]*"|\w+),\n'
+    r'    form: Form::(\w+)(?:\("([^"]*)"\))?,'
 )
 TEXT = re.compile(r'const (\w+): &str =\s*"([^"\\]*)";')
 ORDER = re.compile(r"const COMMANDS: \[CommandRow; \d+\] = \[([^\]]*)\];")

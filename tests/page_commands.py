@@ -3,11 +3,13 @@ or doubtful in it. What is expected was written by hand from docs/FORMATS.md."""
 
 from __future__ import annotations
 
+import hashlib
 import os
 import tempfile
 
 from archives import lines
 from ends import refused_as_no_archive
+from failing import compiled, failing
 from harness import Case, Outcome, Tools, demand, expect, named, refused, run, written
 from lists import Listed
 
@@ -52,6 +54,7 @@ FOUND = (
         "doubt: Page: no page", "90 BadRow: Item: 0", "doubt: Date: words: once", "50 NoSuch: Place: Ashby",
         "92 FieldCount")),
 )
+NO_PATH = "  no place has this path; --make-places makes it\n"
 NOT_UTF8 = '  save the sheet as "CSV UTF-8", or say --from 1252\n'
 # A row with letters that are not ASCII, its bytes in each character set of --from, and where other letters are read of
 # them, these. The bytes of ANSEL and the tables of code pages are those of the standards that FORMATS.md names.
@@ -290,7 +293,8 @@ def not_entered(tools):
             ("BURIAL,8,2,,,,,Tom", refused_at(62, 4, "row 4: 62 NotOfKind: Father of Groom: Tom\n")),
             ("BURIAL,8,2,,,,", refused_at(92, 4, "row 4: 92 FieldCount\n")),
             ("BURIAL,8,2,,,,Ann,,,x", refused_at(97, 4, "row 4: 97 UnknownColumn: x\n")),
-            ('BURIAL,8,2,,"Ashby, Surrey",,Ann', refused_at(50, 4, "row 4: 50 NoSuch: place: Ashby, Surrey\n")),
+            ('BURIAL,8,2,,"Ashby, Surrey",,Ann', refused_at(
+                50, 4, "row 4: 50 NoSuch: place: Ashby, Surrey\n" + NO_PATH)),
             ("BURIAL,8,2,,@none,,Ann", refused_at(50, 4, "row 4: 50 NoSuch: place: @none\n")),
             ("BURIAL,8,2,,9,,Ann", refused_at(50, 4)),
             ("BURIAL,8,2,,@c,,Ann", refused_at(51, 4)),
@@ -315,6 +319,125 @@ def not_entered(tools):
         expect(at.enter(page(good), token="spoilt"), refused(40))
 
 
+# Rows whose places are to be made, of an archive of ROWS, and of each the doubts without `row 2: doubt: Place: `.
+NEW_PLACES = (
+    ('BURIAL,8,1,,"Mill Lane, Ashby, Kent",,Ann', ("new place: Mill Lane, Ashby, Kent",)),
+    ("BURIAL,8,1,,ASHBY Kent,,Ann", ("new place: ASHBY Kent", "like: Ashby, Kent")),
+    ('BURIAL,8,1,,"Hill, KENT",,Ann', ("new place: KENT", "like: Kent", "new place: Hill, KENT")),
+    ('BURIAL,8,1,,"Ashby, Surrey",,Ann', ("new place: Surrey", "new place: Ashby, Surrey")),
+    ('BURIAL,8,1,,"Ashby, Kent",,Ann', ()),
+    ("BURIAL,8,1,,2,,Ann", ()),
+)
+
+
+def token_of(path, token="page-8"):
+    """The token under which a page makes a place."""
+    return "p" + hashlib.sha256(f"{token}\n{path}".encode()).hexdigest()[:63]
+
+
+def new_places(tools):
+    """With --check too each place that would be made is a doubt, with those that it is like; nothing is made."""
+    with Checked(tools) as at:
+        before = at.with_rows(ROWS).tables()
+        for row, doubts in NEW_PLACES:
+            got = at.check(page(row), "--make-places")
+            demand(got == found(1, [f"row 2: doubt: Place: {it}" for it in doubts]), f"{row!r}: {got}")
+        rows = ('BURIAL,8,1,,"Mill, Hill, Surrey",,Ann', 'BURIAL,8,2,,"Hill, Surrey",,Tom',
+                'BURIAL,8,3,,"Pond, Hill, Surrey",,Eva', 'BURIAL,8,4,,"Lane, , Essex",,Jo', "BURIAL,8,5,,9,,Meg",
+                "BURIAL,8,6,,@none,,Ned")
+        paths = {2: ("Surrey", "Hill, Surrey", "Mill, Hill, Surrey"), 4: ("Pond, Hill, Surrey",), 5: ("Essex",)}
+        new = {row: [f"row {row}: doubt: Place: new place: {it}" for it in its] for row, its in paths.items()}
+        expect(at.check(page(*rows), "--make-places"), found(6, (
+            *new[2], *new[4], "row 5: 58 BadText: Place: Lane, , Essex", *new[5], "row 6: 50 NoSuch: Place: 9",
+            "row 7: 50 NoSuch: Place: @none")))
+        demand(at.tables() == before, "the tables changed")
+
+
+def places_made(tools):
+    """The places of a page are made as by rows of `place`, the larger first, and then the page is entered, once."""
+    given = ('BURIAL,8,1,,"Mill, Hill, Kent",,Ann', 'BURIAL,8,2,,"Hill, Kent",,Tom', "BURIAL,8,3,,Surrey,,Eva",
+             'BURIAL,8,4,,"Ashby, Kent",,Jo')
+    made = "made 4 entries, first 9\n".encode()
+    paths = {6: "Hill, Kent", 7: "Mill, Hill, Kent", 8: "Surrey"}
+    said = "".join(f"place {n} is new: {path}\n" for n, path in paths.items())
+    with Checked(tools) as at, Checked(tools) as rows:
+        expect(at.with_rows(ROWS).enter(page(*given), "--make-places"), Outcome(made, said.encode(), 0))
+        places = (f"{token_of('Hill, Kent')},place,Hill,1", f"{token_of('Mill, Hill, Kent')},place,Mill,6",
+                  f"{token_of('Surrey')},place,Surrey,")
+        demand(rows.with_rows(ROWS).apply(lines(places)).status == 0, "the rows of places are not taken")
+        expect(rows.enter(page(*given)), written(made))
+        demand(at.tables() == rows.tables(), "the tables are not those of the rows")
+        expect(at.enter(page(*given), "--make-places"), written(made))
+        expect(at.enter(page(*given)), written(made))
+        expect(at.enter(page(*given[:2]), "--make-places"), refused(52))
+        expect(at.enter(page("BURIAL,9,1,,Kent,,Ann"), "--make-places", token="more"), written(
+            b"made 1 entries, first 13\n"))
+        demand(at.tables() != rows.tables(), "the tables did not change")
+
+
+def no_places_made(tools):
+    """Where a row is refused no place is made."""
+    new = 'BURIAL,8,1,,"Mill, Surrey",,Ann'
+    with Checked(tools) as at:
+        before = at.with_rows(ROWS).tables()
+        for row, outcome in (
+            ("BURIAL,8,1a,,,,Ann", refused_at(90, 3, "row 3: 90 BadRow: Item: 1a\n")),
+            ("BURIAL,8,2,,9,,Ann", refused_at(50, 3)),
+            ("BURIAL,8,2,,@none,,Ann", refused_at(50, 3, "row 3: 50 NoSuch: place: @none\n")),
+            ("BURIAL,8,1,,,,Eva", refused_at(60, 3)),
+            ("BURIAL,7,1,,,,Eva", refused_at(60, 3)),
+            ('BURIAL,8,2,,"Lane, , Kent",,Ann', refused_at(58, 3, "row 3: 58 BadText: place: Lane, , Kent\n")),
+        ):
+            expect(at.enter(page(new, row), "--make-places"), outcome)
+        expect(at.enter(page(new), "--make-places", source="9"), refused(50))
+        expect(at.enter(page(new), "--make-places", source="2"), refused(51))
+        demand(at.tables() == before, "the tables changed")
+        expect(at.enter(page(new)), refused_at(50, 2, "row 2: 50 NoSuch: place: Mill, Surrey\n" + NO_PATH))
+
+
+def places_made_again(tools):
+    """Where a run was stopped after the first places it makes the others."""
+    given = page('BURIAL,8,1,,"Mill, Surrey",,Ann')
+    with Checked(tools) as at:
+        first = lines((f"{token_of('Surrey')},place,Surrey,",))
+        demand(at.with_rows(ROWS).apply(first).status == 0, "the row of the place is not taken")
+        expect(at.enter(given, "--make-places"), Outcome(
+            b"made 1 entries, first 8\n", b"place 7 is new: Mill, Surrey\n", 0))
+
+
+def stopped_among_places(tools):
+    """Where a call on the file or its log fails, and all after it: the first of the places are there, after all of them
+    perhaps the page, and nothing else; given again, the page is entered."""
+    given = page('BURIAL,8,1,,"Mill, Hill, Surrey",,Ann')
+    names = (("Surrey", "Surrey", ""), ("Hill, Surrey", "Hill", 6), ("Mill, Hill, Surrey", "Mill", 7))
+    states = []
+    with Checked(tools) as at:
+        states.append(at.with_rows(ROWS).tables())
+        for path, name, parent in names:
+            demand(at.apply(lines((f"{token_of(path)},place,{name},{parent}",))).status == 0, f"{path} is not taken")
+            states.append(at.tables())
+        expect(at.enter(given), written(b"made 1 entries, first 9\n"))
+        states.append(at.tables())
+    found = set()
+    with tempfile.TemporaryDirectory() as folder:
+        library = compiled(folder)
+        for end in ("", "-wal"):
+            for passed in range(0, 4_000, 5):
+                with Checked(tools) as at:
+                    at.with_rows(ROWS)
+                    mark = os.path.join(at.path, "mark")
+                    stopping = failing(library, os.path.realpath(at.file) + end, passed, mark)
+                    got = at.enter(given, "--make-places", env=stopping)
+                    if not os.path.exists(mark):
+                        break
+                    demand(got.status in (0, 1) and (got.out == b"") == (got.status == 1), f"{passed}: {got}")
+                    run(at.parish, ("audit", at.file))
+                    found.add(states.index(at.tables()))
+                    demand(at.enter(given, "--make-places").out == b"made 1 entries, first 9\n", f"{passed}: not again")
+                    demand(at.tables() == states[-1], f"{passed}: given again it leaves something else")
+    demand({0, 1, 2} <= found, f"it was stopped only after {sorted(found)} requests")
+
+
 def in_no_archive(tools):
     refused_as_no_archive(Checked, tools, lambda at: at.enter(page("BURIAL,8,1,,,,Ann Lee")))
 
@@ -331,6 +454,11 @@ TESTS = (
     then_entered,
     entered,
     not_entered,
+    new_places,
+    places_made,
+    no_places_made,
+    places_made_again,
+    stopped_among_places,
     in_no_archive,
 )
 

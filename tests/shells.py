@@ -72,7 +72,7 @@ def commands_in(text):
 
 def options_in(text):
     part = text.partition("\nOptions:\n")[2].partition("\n\n")[0]
-    return set(re.findall(r"--[a-z]+", "\n".join(line[:30] for line in part.split("\n"))))
+    return set(re.findall(r"--[a-z-]+", "\n".join(line[:30] for line in part.split("\n"))))
 
 
 def what_help_names(tools):

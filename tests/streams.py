@@ -288,6 +288,12 @@ STREAMS = (
         refuses_words(b"'--check' cannot be used without '--table'", "entries", "a.db", "--source", "1", "--check"),
     ),
     (
+        "a batch that is to make places",
+        refuses_words(
+            b"'--make-places' cannot be used without '--table'",
+            "entries", "a.db", "--source", "1", "--token", "t", "--make-places"),
+    ),
+    (
         "a character set of no table",
         refuses_words(b"without '--table'", "entries", "a.db", "--source", "1", "--token", "t", "--from", "1252"),
     ),

@@ -8,6 +8,8 @@ use Rattle.std.proofs.Common.{
   ℕ,
   ℤ,
   Bool,
+  true,
+  false,
   List,
   Some,
   None,
@@ -40,9 +42,11 @@ use Rattle.archive_output.specs.Reading.{OnOpen}
 use Rattle.archive_tables.specs.Texts.{list_of, shown_text}
 use Rattle.archive_state.specs.Content.{Content}
 use Rattle.archive_tables.specs.RowBatches.{Enters, IsEntered as IsBatch, batch_request, numbers_on}
-use Rattle.archive_tables.specs.Entering.{EntersEntries, EntersPage, IsEntered, answered, page_request}
+use Rattle.archive_tables.specs.Entering.{EntersEntries, EntersPage, IsEntered, page_request}
+use Rattle.archive_tables.specs.Making.{EntersPlaced, IsTaken, IsUnread, IsUntaken}
+use Rattle.archive_tables.specs.declared.making.MadePlace.{MadePlace}
 use Rattle.archive_tables.specs.declared.entering.PageEnd.TheVariants.{Entered, Unread}
-use Rattle.page_batches.specs.Batches.{rows_on}
+use Rattle.page_batches.specs.Batches.{rows_on, unplaced}
 use Rattle.page_batches.specs.Words.{numbers_of}
 use Rattle.page_batches.specs.declared.rows.BatchRefusal.{BatchRefusal}
 use Rattle.page_entries.specs.Entries.{page_of}
@@ -65,6 +69,7 @@ use Rattle.receipts.specs.declared.report.ReportLine.{ReportLine}
 use Rattle.record_text.specs.Text.{IsText}
 use Rattle.record_text.specs.declared.refusal.Refusal.{Refusal}
 use Rattle.record_text.specs.declared.refusal.RefusalKind.{RefusalKind}
+use Rattle.record_text.specs.declared.refusal.RefusalKind.TheVariants.{OutOfMemory}
 use Rattle.record_text.specs.declared.refusal.RefusalText.{RefusalText}
 use Rattle.record_text.specs.declared.refusal.Unit.TheVariants as unit
 use Rattle.list_laws.proofs.Outcomes.{keeps}
@@ -98,6 +103,7 @@ use Rattle.tasks.specs.Ends.{
   ChecksTable,
   Does,
   EntersBatch,
+  EntersBy,
   EntersTable,
   Exports,
   ExportsPlain,
@@ -122,9 +128,11 @@ use Rattle.tasks.specs.declared.task.TableForm.{TableForm}
 use Rattle.tasks.specs.declared.task.Task.{Task}
 use Rattle.tasks.specs.declared.task.Task.TheVariants as task
 use Rattle.archive_runs.specs.Reading.{ReadsBack}
-use Rattle.archive_runs.specs.Runs.{Acts, KeepsNone, KeepsOne, KeepsRows, Run, Tells}
+use Rattle.archive_runs.specs.Runs.{Acts, KeepsNone, KeepsOne, KeepsRows, KeepsTable, Run, Tells}
 use Rattle.archive_runs.specs.Seeing.{IsSeen, IsSeenAs}
 use Rattle.archive_runs.proofs.Counted.{IsKept, Ran, accepted, refused}
+use Rattle.archive_runs.proofs.Paging.{ok_is_no_err, was_answered, was_refused}
+use Rattle.archive_runs.proofs.Placed.{IsTold, LeavesPlaced, tried}
 use Rattle.archive_runs.proofs.Seen.{HasDone, kept_still, never, run_of, told, told_none, told_part}
 
 -- ---- archives in what a crash may leave
@@ -135,24 +143,8 @@ still_held t s over society c (inl is) left may =
     inl (subst (λ (k : Content). IsArchive society k left) found.1 found.2)
 still_held t s over society c (inr was) left may = over.held society c was left may
 
--- ---- what a page was answered
-same_answer : (a b : Answer) → ◌≡◌ {A = Result Answer BatchRefusal} (Ok a) (Ok b) → a ≡ b
-same_answer a b is = cc
-
-was_answered : (numbers : List ℕ) (answer : Answer) (o : Answered) → Ok answer ≡ answered numbers o → o ≡ Ok answer
-was_answered numbers answer (Ok a) is = ap Ok (sym (same_answer answer a is))
-was_answered numbers answer (Err e) is = absurd cc
-
-was_refused : (numbers : List ℕ) (why : BatchRefusal) (o : Answered) → Err why ≡ answered numbers o
-    → (e : Refusal) × (o ≡ Err e)
-was_refused numbers why (Ok a) is = absurd cc
-was_refused numbers why (Err e) is = (e, refl)
-
 answer_is_no_refusal : (answer : Answer) (why : Refusal) → Ok answer ≡ Err why → ⊥
 answer_is_no_refusal answer why is = absurd cc
-
-ok_is_no_err : (answer : Answer) (why : BatchRefusal) → Ok answer ≡ Err why → ⊥
-ok_is_no_err answer why is = absurd cc
 
 -- the law of `archive_runs`
 abbrev pub ArePerformed : {D : Type 0} → disk.Ghosts D → Type 0
@@ -422,7 +414,7 @@ module _ {R W F : Type 0} (reader : read.Ghosts R) (reads : device.Ghosts R) (wr
           keeps_none Entering society c left (acts_none Entering c none never) (inl (same_archive wants.1))
 
     -- ---- a page
-    module _ (law : ArePerformed g) (token : List ℕ) (source : ℕ) (form : TableForm) where
+    module _ (law : ArePerformed g) (token : List ℕ) (source : ℕ) (form : TableForm) (plain : form.makes ≡ false) where
       abbrev Paging : Task
       Paging = task.EnterTable token source form
 
@@ -433,7 +425,9 @@ module _ {R W F : Type 0} (reader : read.Ghosts R) (reads : device.Ghosts R) (wr
             ⊎ KeepsOne (run Paging) (page_request token source entries rows) made_text kept
             → Acts c (Some Paging) (run Paging) kept
         acts_page rows are kept (inl none) = inl none
-        acts_page rows are kept (inr one) = inr (entries, reads_them, rows, are, one)
+        acts_page rows are kept (inr one) = inr
+            (subst (λ (makes : Bool). KeepsTable makes c token source form (run Paging) kept) (sym plain)
+            (entries, reads_them, (rows, are, one)))
 
         -- the archive was read, with what it held
         rows_held : (r : Result Answer BatchRefusal)
@@ -606,53 +600,118 @@ module _ {R W F : Type 0} (reader : read.Ghosts R) (reads : device.Ghosts R) (wr
         page_refused same unwritten never = keeps_none Tabling society c left
             (acts_none Tabling c (nothing_told (unprinted unwritten)) never) (inl (same_archive same))
 
-        page_entered : (o : Outcome) (answer : Answer) (entries : List PageEntry)
-            → page_of form.order (page_text form.set input) ≡ Ok entries
-            → EntersEntries over_files token source entries taken (Ok answer) new
-            → PrintsMade writer.contents writes.failed faulter.contents fails.failed o x.output y.output x.faults
-            between answer
-            → Concludes faulter.contents fails.failed Tabling o status between y.faults
-            → FoundIn Tabling society c left
-        page_entered (Ok done) answer entries read enters prints finishes =
-            page_told law token source form entries read answer enters
-            (tells Tabling (made_text answer) prints.printed)
-        page_entered (Err t) answer entries read enters prints finishes =
-            page_told law token source form entries read answer enters
-            (tells_part Tabling (made_text answer) prints.part.2.written
-            (undone (refused_with_1 faulter.contents fails.failed Tabling t status between y.faults finishes)))
-
         -- by an outcome that is a refusal
-        never_done : (o : Outcome) (t : RefusalText) → o ≡ Err t
-            → Concludes faulter.contents fails.failed Tabling o status between y.faults → ¬ (HasDone ended)
-        never_done o t is finishes = undone
-            (refused_with_1 faulter.contents fails.failed Tabling t status between y.faults
-            (subst (λ (same : Outcome). Concludes faulter.contents fails.failed Tabling same status between y.faults) is
+        never_done : (o : Outcome) (t : RefusalText) (said : F) → o ≡ Err t
+            → Concludes faulter.contents fails.failed Tabling o status said y.faults → ¬ (HasDone ended)
+        never_done o t said is finishes = undone
+            (refused_with_1 faulter.contents fails.failed Tabling t status said y.faults
+            (subst (λ (same : Outcome). Concludes faulter.contents fails.failed Tabling same status said y.faults) is
             finishes))
 
-        text_found : (o : Outcome) (text : List ℕ) → IsTableText form.set (reader.remaining x.input) text
+        -- ---- what was said of a page, after these faults
+        made_told : (o : Outcome) (answer : Answer) (said : F)
+            → PrintsMade writer.contents writes.failed faulter.contents fails.failed o x.output y.output said between
+            answer
+            → Concludes faulter.contents fails.failed Tabling o status between y.faults
+            → Tells (run Tabling) (made_text answer)
+        made_told (Ok done) answer said prints finishes = tells Tabling (made_text answer) prints.printed
+        made_told (Err t) answer said prints finishes =
+            tells_part Tabling (made_text answer) prints.part.2.written
+            (undone (refused_with_1 faulter.contents fails.failed Tabling t status between y.faults finishes))
+
+        none_told : (o : Outcome) (t : RefusalText) → o ≡ Err t → y.output ≡ x.output
+            → Concludes faulter.contents fails.failed Tabling o status between y.faults → KeepsNone (run Tabling) []
+        none_told o t is unwritten finishes =
+            (refl, nothing_told (unprinted unwritten), never_done o t between is finishes)
+
+        page_said : (o : Outcome) (said : F) (r : PageEntering)
+            → SaysPage writer.contents writes.failed faulter.contents fails.failed o x.output y.output said between r
+            → Concludes faulter.contents fails.failed Tabling o status between y.faults → IsTold (run Tabling) r
+        page_said o said (Ok (Entered answer words)) says finishes = made_told o answer said says.0 finishes
+        page_said o said (Ok (Unread fault)) (inl bad, unwritten) finishes = none_told o _ bad.0 unwritten finishes
+        page_said o said (Ok (Unread fault)) (inr want, unwritten) finishes = none_told o _ want.0 unwritten finishes
+        page_said o said (Err e) says finishes = none_told o _ says.0 says.2 finishes
+
+        -- ---- by whether its places are made
+        page_found : form.makes ≡ false → (text : List ℕ) → IsTableText form.set (reader.remaining x.input) text
             → (r : PageEntering) → EntersPage over_files token source form.order text taken r new
-            → SaysPage writer.contents writes.failed faulter.contents fails.failed o x.output y.output x.faults between
-            r
+            → IsTold (run Tabling) r → FoundIn Tabling society c left
+        page_found plain text are (Ok (Entered answer words)) did told =
+            page_told law token source form plain did.0 (page_of_input form text _ are did.1) answer did.2.1 told
+        page_found plain text are (Ok (Unread fault)) did none =
+            keeps_none Tabling society c left (inl none) (inl (same_archive did.1))
+        page_found plain text are (Err e) (inl want) none =
+            keeps_none Tabling society c left (inl none) (inl (same_archive want.1))
+        page_found plain text are (Err e) (inr did) none =
+            page_untold law token source form plain did.0 (page_of_input form text _ are did.1) e did.2 none.1 none.2
+
+        module _ (makes : form.makes ≡ true) (made : List MadePlace) (r : PageEntering) (told : IsTold (run Tabling) r)
+          where
+            none_as : (q : PageEntering) → r ≡ q → IsTold (run Tabling) q
+            none_as q is = subst (IsTold (run Tabling)) is told
+
+            unread_found : IsUnread over_files token source form.order (page_text form.set input) taken made r new
+                → FoundIn Tabling society c left
+            unread_found none = keeps_none Tabling society c left
+                (inl (elim none.why [
+                  | inl want ↦ none_as (Err (unplaced OutOfMemory)) want
+                  | inr bad ↦ none_as (Ok (Unread bad.0)) bad.2
+                ])) (inl (same_archive none.same))
+
+            untaken_found : (entries : List PageEntry)
+                → IsUntaken over_files token source form.order (page_text form.set input) entries taken made r new
+                → FoundIn Tabling society c left
+            untaken_found entries bad =
+                let stays = bad.reads.stays clean in
+                let had_it = (held.has stays.clean society c tables holds had).0 in
+                keeps_none Tabling society c left (inl (none_as (Err bad.why) bad.is))
+                (inl (had_it.0, stays.crash had_it.0 c had_it.1 (seen_of had_it.2) left may, had_it.2))
+
+            taken_found : (entries : List PageEntry) → page_of form.order (page_text form.set input) ≡ Ok entries
+                → IsTaken over_files token source form.order (page_text form.set input) entries taken made r new
+                → FoundIn Tabling society c left
+            taken_found entries read did =
+                let lacking = λ (was : HasCleanDisk (file_state did.between.conn)).
+                let read_it = did.right was in
+                let had_it = (held.has read_it.0 society c tables holds had).0 in
+                (read_it.1 had_it.0 c had_it.1 (seen_of had_it.2)).0 in
+                let l : LeavesPlaced society c token source form (run Tabling) left =
+                tried image taken did.between held did.reads did.kept society c tables holds had token new clean left
+                may source form (run Tabling) entries read did.paths lacking made r did.entered told in (
+                  l.0,
+                  l.1,
+                  inr (subst (λ (b : Bool). KeepsTable b c token source form (run Tabling) l.0) (sym makes) l.2),
+                  l.3,
+                  inl l.4,
+                )
+
+            placed_found : EntersPlaced over_files token source form.order (page_text form.set input) taken made r new
+                → FoundIn Tabling society c left
+            placed_found (inl none) = unread_found none
+            placed_found (inr (entries, read, inl bad)) = untaken_found entries bad
+            placed_found (inr (entries, read, inr did)) = taken_found entries read did
+
+        text_found : (makes : Bool) → form.makes ≡ makes → (o : Outcome) (text : List ℕ)
+            → IsTableText form.set (reader.remaining x.input) text
+            → EntersBy over_files reader reads writer writes faulter fails Before After makes token source form.order
+            text o
             → Concludes faulter.contents fails.failed Tabling o status between y.faults
             → FoundIn Tabling society c left
-        text_found o text are (Ok (Entered answer words)) did says finishes =
-            page_entered o answer did.0 (page_of_input form text _ are did.1) did.2.1 says.0 finishes
-        text_found o text are (Ok (Unread fault)) did (inl bad, unwritten) finishes =
-            page_refused did.1 unwritten (never_done o _ bad.0 finishes)
-        text_found o text are (Ok (Unread fault)) did (inr want, unwritten) finishes =
-            page_refused did.1 unwritten (never_done o _ want.0 finishes)
-        text_found o text are (Err e) (inl want) says finishes =
-            page_refused want.1 says.2 (never_done o _ says.0 finishes)
-        text_found o text are (Err e) (inr did) says finishes =
-            page_untold law token source form did.0 (page_of_input form text _ are did.1) e did.2
-            (nothing_told (unprinted says.2)) (never_done o _ says.0 finishes)
+        text_found false plain o text are did finishes =
+            page_found plain text are did.0 did.1 (page_said o x.faults did.0 did.2 finishes)
+        text_found true makes o text are did finishes =
+            let same : text ≡ page_text form.set input =
+            (subst (λ (known : Option (List ℕ)). IsTableText form.set known text) s.reads are).0 in
+            placed_found makes did.made did.r (page_said o did.between did.r did.said finishes)
+            (subst (λ (bytes : List ℕ). EntersPlaced over_files token source form.order bytes taken did.made did.r new)
+            same did.entered)
 
         table_found : (o : Outcome)
             → EntersTable over_files reader reads writer writes faulter fails Before After token source form o
             → Concludes faulter.contents fails.failed Tabling o status between y.faults
             → FoundIn Tabling society c left
-        table_found o (inl none) finishes = page_refused none.3 none.4 (never_done o _ none.1 finishes)
-        table_found o (inr did) finishes = text_found o did.0 did.1 did.2.0 did.2.1 did.2.2 finishes
+        table_found o (inl none) finishes = page_refused none.3 none.4 (never_done o _ between none.1 finishes)
+        table_found o (inr did) finishes = text_found form.makes refl o did.0 did.1 did.2 finishes
 
       import_found : ArePerformed g → (token : List ℕ) (progress : Bool) (o : Outcome)
           → ImportsFile over_files reader reads writer writes faulter fails Before After token o

@@ -4,4 +4,6 @@ mod Closed
 mod Counted
 mod Found
 mod Idle
+mod Paging
+mod Placed
 mod Seen

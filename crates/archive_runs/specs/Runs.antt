@@ -1,5 +1,21 @@
 -- Runs of the program, one after the other, on a file and the log beside it that nobody else writes. Rules of our own.
-use Rattle.std.specs.Prelude.{◌≡◌, ◌⊎◌, ◌++◌, ◌∷◌, [], ℕ, List, Option, Some, None, Ok}
+use Rattle.std.specs.Prelude.{
+  ◌≡◌,
+  ◌⊎◌,
+  ◌++◌,
+  ◌∷◌,
+  [],
+  ℕ,
+  Bool,
+  true,
+  false,
+  List,
+  length,
+  Option,
+  Some,
+  None,
+  Ok,
+}
 use Rattle.sqlite.specs.Files.{HoldsDatabase}
 use Rattle.sqlite.specs.Tree.{Trees}
 use Rattle.sqlite_wal.specs.Recovery.{Image}
@@ -22,7 +38,9 @@ use Rattle.archive_input.specs.Applying.{AreServed, AreServedOver, answers, call
 use Rattle.archive_input.specs.Stopping.{AreAccepted, IsUpToRefusal}
 use Rattle.archive_tables.specs.RowBatches.{batch_request, numbers_on}
 use Rattle.archive_tables.specs.Entering.{page_request}
+use Rattle.archive_tables.specs.Making.{place_request, trial_on}
 use Rattle.page_batches.specs.Batches.{rows_on}
+use Rattle.page_batches.specs.Placing.{parent_on}
 use Rattle.page_entries.specs.Entries.{page_of}
 use Rattle.page_entries.specs.declared.entries.PageEntry.{PageEntry}
 use Rattle.page_texts.specs.Texts.{page_text}
@@ -86,26 +104,59 @@ KeepsBatch c token source run kept = (rows : List Row) × (entries : List EntryR
     × ReadsBatch (numbers_on c rows) (row_bytes (Some run.input)) rows entries
     × KeepsOne run (batch_request token source entries) made_text kept
 
--- the entries of the page of the input are kept, all of them, with the places that the archive had
+-- these entries are kept, all of them, with the places that the archive had
+abbrev pub KeepsEntries : Content → List ℕ → ℕ → List PageEntry → Run → List Done → Type 0
+KeepsEntries c token source entries run kept = (rows : List EntryRow) × (rows_on c token source entries ≡ Ok rows)
+    × KeepsOne run (page_request token source entries rows) made_text kept
+
+-- so are those of the page of the input
 abbrev pub KeepsPage : Content → List ℕ → ℕ → TableForm → Run → List Done → Type 0
 KeepsPage c token source form run kept = (entries : List PageEntry)
-    × (page_of form.order (page_text form.set run.input) ≡ Ok entries)
-    × (rows : List EntryRow) × (rows_on c token source entries ≡ Ok rows)
-    × KeepsOne run (page_request token source entries rows) made_text kept
+    × (page_of form.order (page_text form.set run.input) ≡ Ok entries) × KeepsEntries c token source entries run kept
+
+-- these made the places of the first of these paths, in their order, each within the place that the archive had by then
+-- for the path above it; and that is what it holds after them
+abbrev pub ArePlaces : Content → List ℕ → List (List ℕ) → List Done → Content → Type 0
+ArePlaces c token paths [] found = found ≡ c
+ArePlaces c token [] (done ∷ more) found = ⊥
+ArePlaces c token (path ∷ paths) (done ∷ more) found = (parent : Option ℕ) × (answer : Answer) × (after : Content)
+    × (parent_on c path ≡ Ok parent) × (done ≡ (place_request token path parent, Ok answer))
+    × Runs c (done ∷ []) after × ArePlaces after token paths more found
+
+-- the archive would take the page of the input with the places that it lacks: the first of these are kept, in their
+-- order, and after all of them the entries, all or none
+pub record KeepsPlaced (c : Content) (token : List ℕ) (source : ℕ) (form : TableForm) (run : Run)
+    (kept : List Done) : Type 0 where
+  pub entries : List PageEntry
+  pub read : page_of form.order (page_text form.set run.input) ≡ Ok entries
+  pub paths : List (List ℕ)
+  pub lacking : trial_on c token source entries ≡ Ok paths
+  pub places : List Done
+  pub page : List Done
+  pub all : kept ≡ places ++ page
+  pub found : Content
+  pub made : ArePlaces c token paths places found
+  pub entered : KeepsNone run page
+      ⊎ ((length places ≡ length paths) × KeepsEntries found token source entries run page)
+
+-- by whether the places are made that the archive does not have
+abbrev pub KeepsTable : Bool → Content → List ℕ → ℕ → TableForm → Run → List Done → Type 0
+KeepsTable false c token source form run kept = KeepsPage c token source form run kept
+KeepsTable true c token source form run kept = KeepsPlaced c token source form run kept
 
 -- the file of the input is kept, whole
 abbrev pub KeepsFile : List ℕ → Run → List Done → Type 0
 KeepsFile token run kept = (forest : List Item) × IsFileOf (Some run.input) forest
     × KeepsOne run (import_of token forest) (λ answer. import_text answer (report forest)) kept
 
--- by its task, of an archive that held this. A batch, a page and a file are kept whole or not at all; an export that is
--- done reads back as the same records; of no other task anything is kept
+-- by its task, of an archive that held this. A batch, a page and a file are kept whole or not at all, and the places of
+-- a page before it; an export that is done reads back as the same records; of no other task anything is kept
 abbrev pub Acts : Content → Option Task → Run → List Done → Type 0
 Acts c (Some task.Apply) run kept = KeepsNone run kept ⊎ KeepsRows c run kept
 Acts c (Some task.ApplyUntilRefused) run kept = KeepsNone run kept ⊎ KeepsUntilRefused c run kept
 Acts c (Some (task.Entries token source)) run kept = KeepsNone run kept ⊎ KeepsBatch c token source run kept
 Acts c (Some (task.EnterTable token source form)) run kept =
-    KeepsNone run kept ⊎ KeepsPage c token source form run kept
+    KeepsNone run kept ⊎ KeepsTable form.makes c token source form run kept
 Acts c (Some (task.Import token progress)) run kept = KeepsNone run kept ⊎ KeepsFile token run kept
 Acts c (Some task.Export) run kept = (kept ≡ []) × (IsDone run → ReadsBack c run.written)
 Acts c _ run kept = kept ≡ []

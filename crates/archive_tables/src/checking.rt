@@ -45,13 +45,14 @@ pub fn write_check<S: Alter, W: Write + Device>(
     archive: &mut Archive<S>,
     source: u32,
     order: Option<DateOrder>,
+    makes: bool,
     bytes: &[u8],
     writer: &mut W,
 ) -> Result<PageFound, RefusalKind>
     requires kept { archive.old.is_lost ≡ false }
     ensures ended { OnRead (state S.Store archive.old.conn) (state S.Store archive.new.conn)
         (λ c. EndsChecking result (W.contents writer.old) (W.contents writer.new)
-        (page_check c source order bytes.now)) }
+        (page_check c source order makes bytes.now)) }
     ensures unread { IfErr result
         (λ kind. is_failure kind ≡ true → Keeps (W.contents writer.old) (W.contents writer.new)) }
     ensures writer { IfErr result (λ kind. kind ≡ WriteFailed → Rose (W.failed writer.old) (W.failed writer.new)) }
@@ -60,7 +61,7 @@ pub fn write_check<S: Alter, W: Write + Device>(
 {
     looks_are_a_call::<S>();
     let import = archive.set_aside();
-    let found = check_page(alloc, archive, source, order, bytes);
+    let found = check_page(alloc, archive, source, order, makes, bytes);
     archive.put_back(import);
     write_checked(alloc, archive.is_lost(), found, writer)
 }

@@ -99,10 +99,11 @@ list_there : (o : Option ListKind) (kind : ListKind) (has : Bool) → o ≡ Some
     → option_map_or (λ k. is_listed k has) o false ≡ true
 list_there o kind has e listed = rw e listed
 
-batch_there : {A B C : Type 0} (table checked fits : Bool) (token : Option A) (dates : Option B) (set : Option C)
-    (t : A) → table ≡ false → checked ≡ false → token ≡ Some t → dates ≡ None → set ≡ None
-    → (if table then fits else (is_some token && (not checked && (not (is_some dates) && not (is_some set))))) ≡ true
-batch_there table checked fits token dates set t f g e none no_set = rw (f, g, e, none, no_set) refl
+batch_there : {A B C : Type 0} (table checked making fits : Bool) (token : Option A) (dates : Option B) (set : Option C)
+    (t : A) → table ≡ false → checked ≡ false → making ≡ false → token ≡ Some t → dates ≡ None → set ≡ None
+    → (if table then fits
+    else (is_some token && (not checked && (not making && (not (is_some dates) && not (is_some set)))))) ≡ true
+batch_there table checked making fits token dates set t f g m e none no_set = rw (f, g, m, e, none, no_set) refl
 
 form_there : (found : Option (Text × List Row)) (form : TableWords) → HasForm found form → is_form_fit found ≡ true
 form_there found form has =
@@ -152,7 +153,7 @@ fit_of (asked.Apply file stops) found e has some =
     fit_by (asked.Apply file stops) found (codes "apply") e has (λ rows words. refl)
 fit_of (asked.Entries file source token) found e has some =
     fit_by (asked.Entries file source token) found (codes "entries") e has
-    (λ rows words. batch_there _ _ _ _ _ _ token.now words.3 words.4 words.2 words.5 words.6)
+    (λ rows words. batch_there _ _ _ _ _ _ _ token.now words.3 words.4 words.7 words.2 words.5 words.6)
 fit_of (asked.EnterTable file source form token) found e has some =
     fit_by (asked.EnterTable file source form token) found (codes "entries") e has
     (λ rows words. tabled_there _ _ (is_batch_fit (Some (codes "entries", rows))) _ _ token.now words.2 words.4 words.5

@@ -186,12 +186,15 @@ is_csv found = is_given found (codes "csv")
 abbrev pub is_all : Option (Text × List Row) → Bool
 is_all found = is_given found (codes "all")
 
--- `--table` and `--check` are given
+-- `--table`, `--check` and `--make-places` are given
 abbrev pub is_table : Option (Text × List Row) → Bool
 is_table found = is_given found (codes "table")
 
 abbrev pub is_checked : Option (Text × List Row) → Bool
 is_checked found = is_given found (codes "check")
+
+abbrev pub is_making : Option (Text × List Row) → Bool
+is_making found = is_given found (codes "make-places")
 
 -- an option is given a word of which this is the meaning; or it is not given, and this is none
 abbrev pub IsMeant : {A : Type 0} → (Text → Option A) → Option Text → Option A → Type 0
@@ -217,7 +220,7 @@ HasPages found (Html host) = (is_html found ≡ true) × (option_map string_byte
 -- a table is read as the options say
 abbrev pub HasForm : Option (Text × List Row) → TableWords → Type 0
 HasForm found form = IsMeant order_named (given_in found (codes "dates")) form.order
-    × IsMeant set_named (given_in found (codes "from")) form.set
+    × IsMeant set_named (given_in found (codes "from")) form.set × (form.makes ≡ is_making found)
 
 -- what is asked for has the words that the command is given
 abbrev pub HasWords : Option (Text × List Row) → Asked → Type 0
@@ -230,7 +233,7 @@ HasWords found (Apply file stops) = (file.now ≡ word_in found (codes "FILE")) 
 HasWords found (EntriesAsked file source token) =
     (file.now ≡ word_in found (codes "FILE")) × (source ≡ number_of (word_in found (codes "source")))
     × (given_in found (codes "token") ≡ Some token.now) × (is_table found ≡ false) × (is_checked found ≡ false)
-    × (given_in found (codes "dates") ≡ None) × (given_in found (codes "from") ≡ None)
+    × (given_in found (codes "dates") ≡ None) × (given_in found (codes "from") ≡ None) × (is_making found ≡ false)
 HasWords found (EnterTable file source form token) =
     (file.now ≡ word_in found (codes "FILE")) × (source ≡ number_of (word_in found (codes "source")))
     × (is_table found ≡ true) × HasForm found form × (is_checked found ≡ false)
@@ -321,8 +324,8 @@ is_search_fit found =
 -- a batch has a token, and no word of tables
 abbrev pub is_batch_fit : Option (Text × List Row) → Bool
 is_batch_fit found = is_some (given_in found (codes "token"))
-    && (not (is_checked found)
-    && (not (is_some (given_in found (codes "dates"))) && not (is_some (given_in found (codes "from")))))
+    && (not (is_checked found) && (not (is_making found)
+    && (not (is_some (given_in found (codes "dates"))) && not (is_some (given_in found (codes "from"))))))
 
 -- where an order of dates is given it is one, and where a character set is given it is one
 abbrev pub is_form_fit : Option (Text × List Row) → Bool

@@ -93,12 +93,15 @@ flag_rule name = record (new_rule name) { long = Some name; action = Some SetTru
 abbrev pub stop_rule : Rule
 stop_rule = flag_rule (codes "stop")
 
--- `--table`, `--check` and `--dates ORDER`, any word here
+-- `--table`, `--check`, `--make-places` and `--dates ORDER`, any word here
 abbrev pub table_rule : Rule
 table_rule = flag_rule (codes "table")
 
 abbrev pub checked_rule : Rule
 checked_rule = flag_rule (codes "check")
+
+abbrev pub makes_rule : Rule
+makes_rule = flag_rule (codes "make-places")
 
 abbrev pub order_rule : Rule
 order_rule = option_rule (codes "dates")
@@ -202,7 +205,8 @@ apply_shape = record (new_shape (codes "apply")) { rules = file_rule ∷ stop_ru
 
 abbrev pub entries_shape : Shape
 entries_shape = record (new_shape (codes "entries")) {
-  rules = file_rule ∷ source_rule ∷ maybe_token_rule ∷ table_rule ∷ checked_rule ∷ order_rule ∷ set_rule ∷ [];
+  rules = file_rule ∷ source_rule ∷ maybe_token_rule ∷ table_rule ∷ checked_rule ∷ makes_rule ∷ order_rule
+      ∷ set_rule ∷ [];
 }
 
 abbrev pub import_shape : Shape

@@ -99,6 +99,14 @@ pub(crate) const CHECKED: Word = Word {
     numbers: None,
 };
 
+pub(crate) const MAKES: Word = Word {
+    id: "make-places",
+    help: "Make the places that paths of a table name and FILE does not have",
+    form: Form::Flag,
+    needed: false,
+    numbers: None,
+};
+
 /// Whether it is an order is judged where it is read.
 pub(crate) const ORDER: Word = Word {
     id: "dates",

@@ -31,6 +31,7 @@ pub(crate) fn entries_asked<'a>(alloc: Global, given: &ArgMatches<'a>) -> Result
     ensures taken { is_fit (Some (codes "entries", rows_of (found_of given.now))) ≡ true → AsksForWork result }
 {
     let is_checked = is_yes(word_of(given, "check"));
+    let is_making = is_yes(word_of(given, "make-places"));
     let dates = given_word(given, "dates");
     let from = given_word(given, "from");
     let token = given_word(given, "token");
@@ -54,6 +55,9 @@ pub(crate) fn entries_asked<'a>(alloc: Global, given: &ArgMatches<'a>) -> Result
     if is_checked {
         return Err(no_table(alloc, "--check"));
     }
+    if is_making {
+        return Err(no_table(alloc, "--make-places"));
+    }
     match (token, dates, from) {
         (Some(token), None, None) => Ok(Asked::Entries {
             file,
@@ -66,7 +70,7 @@ pub(crate) fn entries_asked<'a>(alloc: Global, given: &ArgMatches<'a>) -> Result
     }
 }
 
-/// How a table is read, by two options. Refused where the word of one of them has no meaning.
+/// How a table is read, by three options. Refused where the word of one of them has no meaning.
 fn form_given<'a>(alloc: Global, given: &ArgMatches<'a>) -> Result<TableWords, Refused>
     ensures form { IfOk result (HasForm (Some (codes "entries", rows_of (found_of given.now)))) }
     ensures taken { is_form_fit (Some (codes "entries", rows_of (found_of given.now))) ≡ true
@@ -74,7 +78,8 @@ fn form_given<'a>(alloc: Global, given: &ArgMatches<'a>) -> Result<TableWords, R
 {
     let order = order_given(alloc, given_word(given, "dates"))?;
     let set = set_given(alloc, given_word(given, "from"))?;
-    Ok(TableWords { set, order })
+    let makes = is_yes(word_of(given, "make-places"));
+    Ok(TableWords { set, order, makes })
 }
 
 /// The order of dates of an option. Refused where its word is none.

@@ -86,8 +86,8 @@ const EXPORT_USAGE: &str = "Usage: parish export [--plain] [--public --today <YY
 const BATCH_USAGE: &str = "Usage: parish entries --source <N> --token <T> <FILE>";
 
 const TABLE_USAGE: &str =
-    "Usage: parish entries --table <--check|--token <T>> --source <N> [--dates <ORDER>] \
-     [--from <SET>] <FILE>";
+    "Usage: parish entries --table <--check|--token <T>> --source <N> [--make-places] \
+     [--dates <ORDER>] [--from <SET>] <FILE>";
 
 const HTML_USAGE: &str =
     "Usage: parish serve --port <P> --count <N> --today <YYYY-MM-DD> --html [--host <NAME>] <FILE>";

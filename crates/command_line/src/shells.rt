@@ -56,7 +56,8 @@ review completions --help --version'
             entries:--token) offered='' files= ;;
             entries:--dates) offered='' files= ;;
             entries:--from) offered='utf-8 utf-16le utf-16be 1252 437 850 macintosh ansel' files= ;;
-            entries:*) [[ $word != -* ]] || offered='--source --token --table --check --dates --from --help' files= ;;
+            entries:*) [[ $word != -* ]] || offered='--source --token --table --check --make-places --dates --from \
+--help' files= ;;
             import:--token) offered='' files= ;;
             import:*) [[ $word != -* ]] || offered='--token --progress --help' files= ;;
             export:--today) offered='' files= ;;
@@ -155,6 +156,7 @@ macintosh ansel)'
             '--token[The token of the request\\: 1 to 64 characters from `!` to `~`]:T:' \\
             '--table[The input is a table as a spreadsheet writes it, with a header row]' \\
             '--check[Look a table over, and enter nothing]' \\
+            '--make-places[Make the places that paths of a table name and FILE does not have]' \\
             '--dates[The order of dates like 5/6/1761 in a table\\: dmy or mdy]:ORDER:' \\
             '--from[The character set of the file, one of those below]:SET:(utf-8 utf-16le utf-16be 1252 437 850 \
 macintosh ansel)'

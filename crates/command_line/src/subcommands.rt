@@ -8,8 +8,8 @@ ghost use Rattle.command_line.specs.Described.{rule_described, shape_described};
 
 use crate::arguments::{
     AFTER, ALL, CHECKED, COUNT, CSV, FILE, FIRST_DAY, FOUND_LIMIT, GENERATIONS, HOST, HTML,
-    LAST_DAY, LIMIT, MAYBE_SOURCE, MAYBE_TODAY, MAYBE_TOKEN, OPTION_KIND, ORDER, PLAIN, PORT,
-    PROGRESS, PUBLIC, RECORD, RECORD_KIND, RECORDS, SEARCH, SET, SHEET_KIND, SHELL, SOCIETY,
+    LAST_DAY, LIMIT, MAKES, MAYBE_SOURCE, MAYBE_TODAY, MAYBE_TOKEN, OPTION_KIND, ORDER, PLAIN,
+    PORT, PROGRESS, PUBLIC, RECORD, RECORD_KIND, RECORDS, SEARCH, SET, SHEET_KIND, SHELL, SOCIETY,
     SOURCE, STOP, TABLE, TODAY, TOKEN, WORDS, Word, arg_of,
 };
 use crate::texts_finding::{
@@ -117,7 +117,7 @@ const ENTRIES: CommandRow = CommandRow {
     name: "entries",
     about: ENTRIES_ABOUT,
     example: ENTRIES_EXAMPLE,
-    words: &[FILE, SOURCE, MAYBE_TOKEN, TABLE, CHECKED, ORDER, SET],
+    words: &[FILE, SOURCE, MAYBE_TOKEN, TABLE, CHECKED, MAKES, ORDER, SET],
 };
 
 const IMPORT: CommandRow = CommandRow {

@@ -243,6 +243,8 @@ pub struct TableWords {
     pub set: Option<SetName>,
     /// `--dates`: the order of dates of three numbers, if one is given.
     pub order: Option<OrderName>,
+    /// `--make-places`.
+    pub makes: bool,
 }
 
 /// Why a command line asks for nothing.

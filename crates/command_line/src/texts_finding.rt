@@ -76,9 +76,10 @@ The record is printed as it was before each request that overwrote or removed it
 the oldest value first: a line with the key of the value and the token of that
 request, and the value as show prints it; then what it is now, or that it is
 removed. Last come rows for parish apply that put back what it was before the last
-of these requests, with tokens that no row had; below them it is said what no row
-puts back. Imports, merges and undos keep no values here. The living are not
-hidden: the archive is not changed, and nothing is for visitors.
+of these requests, with tokens that no accepted row of an earlier history had;
+below them it is said what no row puts back. Imports, merges and undos keep no
+values here. The living are not hidden: the archive is not changed, and nothing is
+for visitors.
 
 Refusals:
   40 BadStored     what is stored is no record: somebody else wrote FILE

@@ -115,9 +115,12 @@ Columns are kind, page, item, date, place, text and roles, like godparent or
 godparent 2. A place may be a path, as `Ashby, Kent`. Rows have the numbers that
 the sheet shows, and 97 is a column that is not known, 98 one that is missing.
 Standard error names the cell that is refused, and says how many dates have no
-days but words. docs/FORMATS.md says what a cell may be. The table is in UTF-8,
-in UTF-16 with its mark, or in the SET that is given: utf-8, utf-16le, utf-16be,
-1252 (Windows), 437 or 850 (DOS), macintosh or ansel.
+days but words. With --make-places the places are made that paths name and FILE
+does not have, the larger first, if the table would be entered then; standard
+error names each: `place 7 is new: Ashby, Kent`. docs/FORMATS.md says what a
+cell may be. The table is in UTF-8, in UTF-16 with its mark, or in the SET that
+is given: utf-8, utf-16le, utf-16be, 1252 (Windows), 437 or 850 (DOS), macintosh
+or ansel.
 
 With --table and --check nothing is entered, and no token is needed: standard
 output gets a line for all that would be refused or is doubtful,

@@ -19,11 +19,14 @@ use Rattle.std.specs.Prelude.{
   if◌then◌else◌,
 }
 use Rattle.record_text.specs.declared.refusal.RefusalKind.{RefusalKind}
+use Rattle.record_text.specs.declared.refusal.RefusalKind.TheVariants.{NoSuch}
 use Rattle.archive_state.specs.Content.{Content}
 use Rattle.commands.specs.Bytes.{or_empty}
 use Rattle.commands.specs.declared.entry_row.EntryRow.{EntryRow}
 use Rattle.page_entries.specs.Entries.{and_then}
 use Rattle.page_entries.specs.declared.entries.PageEntry.{PageEntry}
+use Rattle.page_entries.specs.declared.places.PagePlace.{PagePlace}
+use Rattle.page_entries.specs.declared.places.PagePlace.TheVariants.{Path}
 use Rattle.page_checks.specs.Refusing.{refused_line}
 use Rattle.page_batches.specs.Digests.{place_words}
 use Rattle.page_batches.specs.Looks.{Found, looks_of}
@@ -37,11 +40,20 @@ row_place number = if nat_le number 4294967295 then number else 4294967295
 abbrev pub unplaced : RefusalKind → BatchRefusal
 unplaced kind = record { refusal = record { kind = kind; at = None }; line = [] }
 
+-- what to do, where no place has a path
+abbrev pub path_hint : Option PagePlace → List ℕ
+path_hint (Some (Path path)) = codes "  no place has this path; --make-places makes it" ++ 10 ∷ []
+path_hint place = []
+
+abbrev pub hint_of : Option PagePlace → RefusalKind → List ℕ
+hint_of place NoSuch = path_hint place
+hint_of place kind = []
+
 -- the row of the sheet, and the line of its place
 abbrev pub refused : PageEntry → RefusalKind → BatchRefusal
 refused e kind = record {
   refusal = record { kind = kind; at = Some (row_place e.row) };
-  line = refused_line e.row kind (codes "place") (or_empty place_words e.place);
+  line = refused_line e.row kind (codes "place") (or_empty place_words e.place) ++ hint_of e.place kind;
 }
 
 abbrev pub with_place : PageEntry → Option ℕ → EntryRow

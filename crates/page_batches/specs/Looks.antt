@@ -9,7 +9,7 @@ use Rattle.commands.specs.Rows.{and_then}
 use Rattle.command_checks.specs.Checks.{demanded_at}
 use Rattle.command_checks.specs.declared.kinds.Demand.TheVariants.{Source}
 use Rattle.import_definitions.specs.Made.{lowest_place}
-use Rattle.page_checks.specs.Answers.{made_first}
+use Rattle.page_answers.specs.Answers.{made_first}
 use Rattle.page_entries.specs.declared.entries.PageEntry.{PageEntry}
 use Rattle.page_entries.specs.declared.places.PagePlace.{PagePlace}
 use Rattle.page_entries.specs.declared.places.PagePlace.TheVariants.{Number, Token, Path}

@@ -4,7 +4,7 @@ ghost use Rattle.std.specs.Prelude.{◌≡◌, ◌++◌, ◌∷◌, [], OnOk, So
 ghost use Rattle.archive_state.specs.Looks.{Agrees, CountsFailures, Looked, is_stop};
 ghost use Rattle.archive_state.specs.Views.{On};
 ghost use Rattle.commands.specs.Fields.{text_of};
-ghost use Rattle.page_checks.specs.Answers.{made_first};
+ghost use Rattle.page_answers.specs.Answers.{made_first};
 ghost use Rattle.page_batches.specs.Looks as looks;
 
 use crate::places::Places;

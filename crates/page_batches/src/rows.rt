@@ -7,12 +7,12 @@ use crate::digest::place_words;
 use crate::places::Places;
 use commands::{EntryRow, EntryRows, Field};
 use page_checks::refused_line;
-use page_entries::{PageDate, PageEntry};
+use page_entries::{PageDate, PageEntry, PagePlace};
 use record_text::{Refusal, RefusalKind};
 use std::alloc::{AllocError, Global};
 
 /// Why an archive refuses a page: at the row that the sheet shows, with a line of the cell that is to blame, where one
-/// is; else that is empty.
+/// is, and what to do; else that is empty.
 #[derive(Debug, Drop)]
 pub struct BatchRefusal {
     pub refusal: Refusal,
@@ -104,12 +104,32 @@ fn refused(alloc: Global, entry: &PageEntry, kind: RefusalKind) -> Result<BatchR
     ensures { IfOk result (λ e. e ≡ batches.refused entry.now kind) }
 {
     let place = place_words(alloc, &entry.place)?;
-    let line = refused_line(alloc, entry.row, kind, "place", place.as_str())?;
+    let mut line = refused_line(alloc, entry.row, kind, "place", place.as_str())?;
+    line.push_str(hint_of(&entry.place, kind))?;
     let at = Some(row_place(entry.row));
     Ok(BatchRefusal {
         refusal: Refusal { kind, at },
         line: Field::new(line),
     })
+}
+
+/// What to do, where no place has a path.
+fn hint_of(place: &Option<PagePlace>, kind: RefusalKind) -> &'static str
+    ensures { result.now ≡ batches.hint_of place.now kind }
+{
+    match kind {
+        RefusalKind::NoSuch => path_hint(place),
+        _ => "",
+    }
+}
+
+fn path_hint(place: &Option<PagePlace>) -> &'static str
+    ensures { result.now ≡ batches.path_hint place.now }
+{
+    match place {
+        Some(PagePlace::Path(_)) => "  no place has this path; --make-places makes it\n",
+        _ => "",
+    }
 }
 
 /// The number of a row as a refusal has it.

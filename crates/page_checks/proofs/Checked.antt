@@ -30,11 +30,11 @@ use Rattle.std.proofs.lemmas.List.Folds.{list_any-append}
 use Rattle.table_pages.specs.Sheets.{Sheet}
 use Rattle.table_pages.specs.declared.sheet.SheetRow.{SheetRow}
 use Rattle.page_entries.specs.declared.dates.DateOrder.{DateOrder}
-use Rattle.page_checks.specs.Keys.{has_words, have_words, is_among, key_of, key_words}
-use Rattle.page_checks.specs.Rows.{answer_at, checked_row, checked_rows, is_repeated}
-use Rattle.page_checks.specs.declared.answers.RowAnswer.{RowAnswer}
+use Rattle.page_answers.specs.Keys.{has_words, have_words, is_among, key_of, key_words}
+use Rattle.page_checks.specs.Rows.{Likes, answer_at, checked_row, checked_rows, is_repeated}
+use Rattle.page_answers.specs.declared.answers.RowAnswer.{RowAnswer}
 use Rattle.page_checks.specs.declared.findings.CheckedRow.{CheckedRow}
-use Rattle.page_checks.specs.declared.keys.Key.{Key}
+use Rattle.page_answers.specs.declared.keys.Key.{Key}
 
 -- the rows before the next one
 rows_more : (rows : List SheetRow) (i : ℕ) (row : SheetRow) → i < length rows → row ≡ get_or rows i row
@@ -48,25 +48,25 @@ rows_from : (rows : List SheetRow) (i : ℕ) (row : SheetRow) → i < length row
 rows_from rows i row less is = drop-cons rows i row less ∙ ap (λ (r : SheetRow). r ∷ drop (suc i) rows) (sym is)
     ∙ ap (λ (k : ℕ). row ∷ drop k rows) (sym (add-one i))
 
-module _ (order : Option DateOrder) (sheet : Sheet) (answers : List RowAnswer) where
+module _ (order : Option DateOrder) (sheet : Sheet) (answers : List RowAnswer) (likes : Likes) where
   -- a row more is checked
   pub one_more : (at i : ℕ) (rows : List SheetRow) (row : SheetRow) (checked more all : List CheckedRow)
       → i < length rows → row ≡ get_or rows i row
       → more ≡ checked
-      ++ checked_row order sheet (answer_at answers at) (key_of sheet row) (is_repeated sheet (take i rows) row) row
-      ∷ []
-      → checked ++ checked_rows order sheet answers at (take i rows) (drop i rows) ≡ all
-      → more ++ checked_rows order sheet answers (at + 1) (take (i + 1) rows) (drop (i + 1) rows) ≡ all
+      ++ checked_row order sheet (answer_at answers at) likes (key_of sheet row)
+      (is_repeated sheet (take i rows) row) row ∷ []
+      → checked ++ checked_rows order sheet answers likes at (take i rows) (drop i rows) ≡ all
+      → more ++ checked_rows order sheet answers likes (at + 1) (take (i + 1) rows) (drop (i + 1) rows) ≡ all
   one_more at i rows row checked more all less is now before =
-      let r : CheckedRow = checked_row order sheet (answer_at answers at) (key_of sheet row)
+      let r : CheckedRow = checked_row order sheet (answer_at answers at) likes (key_of sheet row)
       (is_repeated sheet (take i rows) row) row in
       let rest : List SheetRow = drop (i + 1) rows in
       ap (λ (l : List CheckedRow). l
-      ++ checked_rows order sheet answers (at + 1) (take (i + 1) rows) rest) now
-      ∙ append_assoc checked (r ∷ []) (checked_rows order sheet answers (at + 1) (take (i + 1) rows) rest)
-      ∙ ap (λ (b : List SheetRow). checked ++ r ∷ checked_rows order sheet answers (at + 1) b rest)
+      ++ checked_rows order sheet answers likes (at + 1) (take (i + 1) rows) rest) now
+      ∙ append_assoc checked (r ∷ []) (checked_rows order sheet answers likes (at + 1) (take (i + 1) rows) rest)
+      ∙ ap (λ (b : List SheetRow). checked ++ r ∷ checked_rows order sheet answers likes (at + 1) b rest)
       (rows_more rows i row less is)
-      ∙ ap (λ (l : List SheetRow). checked ++ checked_rows order sheet answers at (take i rows) l)
+      ∙ ap (λ (l : List SheetRow). checked ++ checked_rows order sheet answers likes at (take i rows) l)
       (sym (rows_from rows i row less is))
       ∙ before
 

@@ -1,4 +1,4 @@
 pub mod Checked
-pub mod Keyed
+pub mod Likes
 mod Refused
 pub mod Unblamed

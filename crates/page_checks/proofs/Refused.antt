@@ -19,7 +19,6 @@ use Rattle.std.proofs.Common.{
   inr,
   append_assoc,
   arith,
-  map,
 }
 use Rattle.std.specs.Prelude.{Option, Some, None, slice_get}
 use Rattle.std.specs.List.{flat_map}
@@ -37,7 +36,8 @@ use Rattle.page_entries.specs.Checks.{text_fault}
 use Rattle.page_entries.specs.Entries.{cell_under, kind_in}
 use Rattle.page_entries.specs.Under.{cell_at}
 use Rattle.page_entries.specs.declared.dates.DateOrder.{DateOrder}
-use Rattle.page_checks.specs.Answers.{answer_of}
+use Rattle.page_answers.specs.Answers.{answers_on}
+use Rattle.page_answers.specs.NewPlaces.{likes_on}
 use Rattle.page_checks.specs.Cells.{
   dated,
   faulty,
@@ -50,7 +50,7 @@ use Rattle.page_checks.specs.Cells.{
   what_of,
 }
 use Rattle.page_checks.specs.Findings.{maybe}
-use Rattle.page_checks.specs.Keys.{key_of}
+use Rattle.page_answers.specs.Keys.{key_of}
 use Rattle.page_checks.specs.Laws.{Has, IsRefused, Misses}
 use Rattle.page_checks.specs.Lines.{line, row_lines}
 use Rattle.page_checks.specs.Page.{found_on}
@@ -59,16 +59,18 @@ use Rattle.page_checks.specs.Rows.{
   checked_row,
   checked_rows,
   is_repeated,
+  Likes,
   known_of,
+  of_news,
   under_column,
   under_columns,
 }
-use Rattle.page_checks.specs.declared.answers.RowAnswer.{RowAnswer}
+use Rattle.page_answers.specs.declared.answers.RowAnswer.{RowAnswer}
 use Rattle.page_checks.specs.declared.cells.Known.{Known}
 use Rattle.page_checks.specs.declared.findings.Finding.{Finding}
 use Rattle.page_checks.specs.declared.findings.What.{What}
 use Rattle.page_checks.specs.declared.findings.What.TheVariants.{Fault}
-use Rattle.page_checks.specs.declared.keys.Key.{Key}
+use Rattle.page_answers.specs.declared.keys.Key.{Key}
 
 -- ---- what is found in the cell
 mention_missed : (order : Option DateOrder) (kind : Option EntryKind) (role : Role) (number : ℕ) (cell : List ℕ)
@@ -134,80 +136,86 @@ lines_right n fs gs part h =
 abbrev finding : What → List (List ℕ) → List (List ℕ) → ℕ → Finding
 finding what names cells k = record { what = what; column = cell_at names k; cell = cell_at cells k }
 
-here_has : (n : ℕ) (known : Known) (names cells : List (List ℕ)) (k : ℕ) (c : Column) (what : What)
+here_has : (n : ℕ) (known : Known) (likes : Likes) (news names cells : List (List ℕ)) (k : ℕ) (c : Column) (what : What)
     → what_of known c (cell_at cells k) ≡ Some what
-    → Has (flat_map (line n) (under_column known c (cell_at names k) (cell_at cells k)))
+    → Has (flat_map (line n) (under_column known likes news c (cell_at names k) (cell_at cells k)))
     (line n (finding what names cells k))
-here_has n known names cells k c what found =
-    subst (λ (w : Option What). Has (flat_map (line n) (maybe w (cell_at names k) (cell_at cells k)))
-    (line n (finding what names cells k))) (sym found) (has_first (line n (finding what names cells k)) [])
+here_has n known likes news names cells k c what found =
+    lines_left n (maybe (what_of known c (cell_at cells k)) (cell_at names k) (cell_at cells k))
+    (of_news likes news c (cell_at names k)) (line n (finding what names cells k))
+    (subst (λ (w : Option What). Has (flat_map (line n) (maybe w (cell_at names k) (cell_at cells k)))
+    (line n (finding what names cells k))) (sym found) (has_first (line n (finding what names cells k)) []))
 
-cell_has : (n : ℕ) (known : Known) (names cells : List (List ℕ)) (at : ℕ) (columns : List Column) (j k : ℕ)
-    (c : Column) (what : What) → k ≡ at + j → slice_get columns j ≡ Some c
+cell_has : (n : ℕ) (known : Known) (likes : Likes) (news names cells : List (List ℕ)) (at : ℕ)
+    (columns : List Column) (j k : ℕ) (c : Column) (what : What) → k ≡ at + j → slice_get columns j ≡ Some c
     → what_of known c (cell_at cells k) ≡ Some what
-    → Has (flat_map (line n) (under_columns known names cells at columns)) (line n (finding what names cells k))
-cell_has n known names cells at [] j k c what e is found = absurd cc
-cell_has n known names cells at (d ∷ columns) zero k c what e is found =
+    → Has (flat_map (line n) (under_columns known likes news names cells at columns))
+    (line n (finding what names cells k))
+cell_has n known likes news names cells at [] j k c what e is found = absurd cc
+cell_has n known likes news names cells at (d ∷ columns) zero k c what e is found =
     let same : k ≡ at = omega (arith, e) in
     let column : Some c ≡ Some d = sym is in
     let one : c ≡ d = cc in
-    lines_left n (under_column known d (cell_at names at) (cell_at cells at))
-    (under_columns known names cells (at + 1) columns) (line n (finding what names cells k))
-    (subst (λ m. Has (flat_map (line n) (under_column known d (cell_at names m) (cell_at cells m)))
+    lines_left n (under_column known likes news d (cell_at names at) (cell_at cells at))
+    (under_columns known likes news names cells (at + 1) columns) (line n (finding what names cells k))
+    (subst (λ m. Has (flat_map (line n) (under_column known likes news d (cell_at names m) (cell_at cells m)))
     (line n (finding what names cells k))) same
-    (subst (λ (x : Column). Has (flat_map (line n) (under_column known x (cell_at names k) (cell_at cells k)))
-    (line n (finding what names cells k))) one (here_has n known names cells k c what found)))
-cell_has n known names cells at (d ∷ columns) (suc j) k c what e is found =
+    (subst (λ (x : Column).
+    Has (flat_map (line n) (under_column known likes news x (cell_at names k) (cell_at cells k)))
+    (line n (finding what names cells k))) one (here_has n known likes news names cells k c what found)))
+cell_has n known likes news names cells at (d ∷ columns) (suc j) k c what e is found =
     let next : k ≡ (at + 1) + j = omega (arith, e) in
-    lines_right n (under_column known d (cell_at names at) (cell_at cells at))
-    (under_columns known names cells (at + 1) columns) (line n (finding what names cells k))
-    (cell_has n known names cells (at + 1) columns j k c what next is found)
+    lines_right n (under_column known likes news d (cell_at names at) (cell_at cells at))
+    (under_columns known likes news names cells (at + 1) columns) (line n (finding what names cells k))
+    (cell_has n known likes news names cells (at + 1) columns j k c what next is found)
 
 -- ---- the lines of all rows
-row_has : (order : Option DateOrder) (sheet : Sheet) (answers : List RowAnswer) (at : ℕ) (before rows : List SheetRow)
-    (i k : ℕ) (row : SheetRow) (part : List ℕ) → k ≡ at + i → slice_get rows i ≡ Some row
+row_has : (order : Option DateOrder) (sheet : Sheet) (answers : List RowAnswer) (likes : Likes) (at : ℕ)
+    (before rows : List SheetRow) (i k : ℕ) (row : SheetRow) (part : List ℕ) → k ≡ at + i → slice_get rows i ≡ Some row
     → ((key : Option Key) (repeated : Bool)
-    → Has (row_lines (checked_row order sheet (answer_at answers k) key repeated row)) part)
-    → Has (flat_map row_lines (checked_rows order sheet answers at before rows)) part
-row_has order sheet answers at before [] i k row part e is h = absurd cc
-row_has order sheet answers at before (r ∷ rows) zero k row part e is h =
+    → Has (row_lines (checked_row order sheet (answer_at answers k) likes key repeated row)) part)
+    → Has (flat_map row_lines (checked_rows order sheet answers likes at before rows)) part
+row_has order sheet answers likes at before [] i k row part e is h = absurd cc
+row_has order sheet answers likes at before (r ∷ rows) zero k row part e is h =
     let same : k ≡ at = omega (arith, e) in
     let rows-same : Some row ≡ Some r = sym is in
     let one : row ≡ r = cc in
     has_left
     (row_lines
-    (checked_row order sheet (answer_at answers at) (key_of sheet r) (is_repeated sheet before r) r))
-    (flat_map row_lines (checked_rows order sheet answers (at + 1) (before ++ r ∷ []) rows)) part
+    (checked_row order sheet (answer_at answers at) likes (key_of sheet r) (is_repeated sheet before r) r))
+    (flat_map row_lines (checked_rows order sheet answers likes (at + 1) (before ++ r ∷ []) rows)) part
     (subst (λ m. Has (row_lines
-    (checked_row order sheet (answer_at answers m) (key_of sheet r) (is_repeated sheet before r) r)) part) same
+    (checked_row order sheet (answer_at answers m) likes (key_of sheet r) (is_repeated sheet before r) r)) part) same
     (subst (λ (x : SheetRow). Has (row_lines
-    (checked_row order sheet (answer_at answers k) (key_of sheet r) (is_repeated sheet before r) x)) part) one
+    (checked_row order sheet (answer_at answers k) likes (key_of sheet r) (is_repeated sheet before r) x)) part) one
     (h (key_of sheet r) (is_repeated sheet before r))))
-row_has order sheet answers at before (r ∷ rows) (suc i) k row part e is h =
+row_has order sheet answers likes at before (r ∷ rows) (suc i) k row part e is h =
     let next : k ≡ (at + 1) + i = omega (arith, e) in
     has_right
     (row_lines
-    (checked_row order sheet (answer_at answers at) (key_of sheet r) (is_repeated sheet before r) r))
-    (flat_map row_lines (checked_rows order sheet answers (at + 1) (before ++ r ∷ []) rows)) part
-    (row_has order sheet answers (at + 1) (before ++ r ∷ []) rows i k row part next is h)
+    (checked_row order sheet (answer_at answers at) likes (key_of sheet r) (is_repeated sheet before r) r))
+    (flat_map row_lines (checked_rows order sheet answers likes (at + 1) (before ++ r ∷ []) rows)) part
+    (row_has order sheet answers likes (at + 1) (before ++ r ∷ []) rows i k row part next is h)
 
-pub refused_has : (content : Content) (source : ℕ) (order : Option DateOrder) (sheet : Sheet) (i j : ℕ)
+pub refused_has : (content : Content) (source : ℕ) (order : Option DateOrder) (makes : Bool) (sheet : Sheet) (i j : ℕ)
     (row : SheetRow) (c : Column) → slice_get sheet.rows i ≡ Some row → slice_get sheet.columns j ≡ Some c
     → IsRefused order (kind_in (cell_under sheet row column.Kind)) c (cell_at row.cells j)
-    → (why : FaultKind) × Has (found_on content source order sheet).text
+    → (why : FaultKind) × Has (found_on content source order makes sheet).text
     (line row.number (finding (Fault why) sheet.names row.cells j))
-refused_has content source order sheet i j row c at_row at_column refused =
-    let answers = map (answer_of content source sheet) sheet.rows in
+refused_has content source order makes sheet i j row c at_row at_column refused =
+    let answers = answers_on content source makes sheet in
+    let likes : Likes = likes_on content answers in
+    let news = (answer_at answers i).news in
     let known = known_of order sheet (answer_at answers i) row in
     let wrong = wrong_cell known c (cell_at row.cells j) refused in
     let part = line row.number (finding (Fault wrong.0) sheet.names row.cells j) in
     let from : j ≡ 0 + j = omega arith in
     let first : i ≡ 0 + i = omega arith in
-    let under = under_columns known sheet.names row.cells 0 sheet.columns in
-    let inside = cell_has row.number known sheet.names row.cells 0 sheet.columns j j c (Fault wrong.0) from at_column
-    wrong.1 in (
+    let under = under_columns known likes news sheet.names row.cells 0 sheet.columns in
+    let inside = cell_has row.number known likes news sheet.names row.cells 0 sheet.columns j j c (Fault wrong.0) from
+    at_column wrong.1 in (
       wrong.0,
-      has_left (flat_map row_lines (checked_rows order sheet answers 0 [] sheet.rows)) _ part
-          (row_has order sheet answers 0 [] sheet.rows i i row part first at_row
+      has_left (flat_map row_lines (checked_rows order sheet answers likes 0 [] sheet.rows)) _ part
+          (row_has order sheet answers likes 0 [] sheet.rows i i row part first at_row
           (λ key repeated. lines_left row.number under _ part inside)),
     )

@@ -30,12 +30,12 @@ with_found : (check : PageCheck) (r : Result (Unit {0}) RefusalKind) → IsUnbla
 with_found check (Ok u) ok = tt
 with_found check (Err kind) ok = ok
 
-read : (c : Content) (source : ℕ) (order : Option DateOrder) (r : Result Sheet PageFault)
-    → IsUnblamed (unless_unread c source order r)
-read c source order (Ok sheet) =
-    with_found (found_on c source order sheet) (demanded_at c Source source) (demanded (get c.records source))
-read c source order (Err fault) = tt
+read : (c : Content) (source : ℕ) (order : Option DateOrder) (makes : Bool) (r : Result Sheet PageFault)
+    → IsUnblamed (unless_unread c source order makes r)
+read c source order makes (Ok sheet) =
+    with_found (found_on c source order makes sheet) (demanded_at c Source source) (demanded (get c.records source))
+read c source order makes (Err fault) = tt
 
-pub never_written : (c : Content) (source : ℕ) (order : Option DateOrder) (bytes : List ℕ)
-    → IfErr (page_check c source order bytes) (λ kind. kind ≢ WriteFailed)
-never_written c source order bytes = read c source order (sheet_of bytes)
+pub never_written : (c : Content) (source : ℕ) (order : Option DateOrder) (makes : Bool) (bytes : List ℕ)
+    → IfErr (page_check c source order makes bytes) (λ kind. kind ≢ WriteFailed)
+never_written c source order makes bytes = read c source order makes (sheet_of bytes)

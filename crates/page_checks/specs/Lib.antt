@@ -1,7 +1,5 @@
-pub mod Answers
 pub mod Cells
 pub mod Findings
-pub mod Keys
 pub mod Laws
 pub mod Lines
 pub mod Page

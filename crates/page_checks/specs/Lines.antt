@@ -21,7 +21,7 @@ use Rattle.table_pages.specs.Faults as fault
 use Rattle.page_checks.specs.Findings.{is_doubtful, is_wrong}
 use Rattle.page_checks.specs.declared.findings.CheckedRow.{CheckedRow}
 use Rattle.page_checks.specs.declared.findings.Doubt.{Doubt}
-use Rattle.page_checks.specs.declared.findings.Doubt.TheVariants.{Words, NoPage, Page, Long}
+use Rattle.page_checks.specs.declared.findings.Doubt.TheVariants.{Like, Long, NewPlace, NoPage, Page, Words}
 use Rattle.page_checks.specs.declared.findings.Finding.{Finding}
 use Rattle.page_checks.specs.declared.findings.What.{What}
 use Rattle.page_checks.specs.declared.findings.What.TheVariants.{Fault, Refused, Doubtful}
@@ -44,6 +44,8 @@ doubt_word Words = codes "words"
 doubt_word NoPage = codes "no page"
 doubt_word Page = codes "page"
 doubt_word Long = codes "long"
+doubt_word NewPlace = codes "new place"
+doubt_word Like = codes "like"
 
 abbrev pub doubted : Doubt → List ℕ → List ℕ
 doubted doubt column = codes "doubt" ++ (part column ++ (codes ": " ++ doubt_word doubt))

@@ -23,6 +23,7 @@ use Rattle.std.specs.Prelude.{
   Err,
   if◌then◌else◌,
 }
+use Rattle.std.specs.List.{flat_map}
 use Rattle.record_text.specs.declared.refusal.RefusalKind.TheVariants.{DuplicateEntry}
 use Rattle.record_fields.specs.Words.{entry_kind_word}
 use Rattle.commands.specs.declared.entry_row.GivenMention.{GivenMention}
@@ -37,24 +38,44 @@ use Rattle.page_entries.specs.Under.{cell_at, counted, mentions}
 use Rattle.page_entries.specs.declared.dates.DateOrder.{DateOrder}
 use Rattle.page_checks.specs.Cells.{what_of}
 use Rattle.page_checks.specs.Findings.{found, maybe}
-use Rattle.page_checks.specs.Keys.{have_words, is_among, key_of}
-use Rattle.page_checks.specs.declared.answers.RowAnswer.{RowAnswer}
+use Rattle.page_answers.specs.Keys.{have_words, is_among, key_of}
+use Rattle.page_answers.specs.declared.answers.RowAnswer.{RowAnswer}
 use Rattle.page_checks.specs.declared.cells.Known.{Known}
 use Rattle.page_checks.specs.declared.findings.CheckedRow.{CheckedRow}
 use Rattle.page_checks.specs.declared.findings.Finding.{Finding}
-use Rattle.page_checks.specs.declared.findings.What.TheVariants.{Fault, Refused}
-use Rattle.page_checks.specs.declared.keys.Key.{Key}
+use Rattle.page_checks.specs.declared.findings.Doubt.TheVariants.{Like, NewPlace}
+use Rattle.page_checks.specs.declared.findings.What.TheVariants.{Doubtful, Fault, Refused}
+use Rattle.page_answers.specs.declared.keys.Key.{Key}
+
+-- ---- places that are to be made
+-- what each path is like
+abbrev pub Likes : Type 0
+Likes = List ℕ → List (List ℕ)
+
+abbrev pub of_like : List ℕ → List ℕ → List Finding
+of_like name path = found (Doubtful Like) name path
+
+-- a path, and those that it is like
+abbrev pub of_new : Likes → List ℕ → List ℕ → List Finding
+of_new likes name path = found (Doubtful NewPlace) name path ++ flat_map (of_like name) (likes path)
+
+-- of a row for which these are to be made
+abbrev pub of_news : Likes → List (List ℕ) → Column → List ℕ → List Finding
+of_news likes news column.Place name = flat_map (of_new likes name) news
+of_news likes news c name = []
 
 -- ---- cells
 -- a cell under a column of a name
-abbrev pub under_column : Known → Column → List ℕ → List ℕ → List Finding
-under_column known c name cell = maybe (what_of known c cell) name cell
+abbrev pub under_column : Known → Likes → List (List ℕ) → Column → List ℕ → List ℕ → List Finding
+under_column known likes news c name cell = maybe (what_of known c cell) name cell ++ of_news likes news c name
 
 -- the cells under the columns from this place on; a cell that is missing is empty
-abbrev pub under_columns : Known → List (List ℕ) → List (List ℕ) → ℕ → List Column → List Finding
-under_columns known names cells at [] = []
-under_columns known names cells at (c ∷ columns) =
-    under_column known c (cell_at names at) (cell_at cells at) ++ under_columns known names cells (at + 1) columns
+abbrev pub under_columns : Known → Likes → List (List ℕ) → List (List ℕ) → List (List ℕ) → ℕ → List Column
+    → List Finding
+under_columns known likes news names cells at [] = []
+under_columns known likes news names cells at (c ∷ columns) =
+    under_column known likes news c (cell_at names at) (cell_at cells at)
+    ++ under_columns known likes news names cells (at + 1) columns
 
 -- of the cells after the last column the first that is not empty
 abbrev pub beyond : List (List ℕ) → List Finding
@@ -90,20 +111,20 @@ known_of order sheet answer row = record {
 }
 
 -- all that is found in a row, by its columns, and then what no column is to blame for
-abbrev pub findings : Option DateOrder → Sheet → RowAnswer → Option Key → Bool → SheetRow → List Finding
-findings order sheet answer key is_repeated row =
-    under_columns (known_of order sheet answer row) sheet.names row.cells 0 sheet.columns
+abbrev pub findings : Option DateOrder → Sheet → RowAnswer → Likes → Option Key → Bool → SheetRow → List Finding
+findings order sheet answer likes key is_repeated row =
+    under_columns (known_of order sheet answer row) likes answer.news sheet.names row.cells 0 sheet.columns
     ++ (beyond (drop (length sheet.columns) row.cells) ++ (of_names sheet row
     ++ of_key key (answer.is_taken || is_repeated)))
 
-abbrev pub checked_row : Option DateOrder → Sheet → RowAnswer → Option Key → Bool → SheetRow → CheckedRow
-checked_row order sheet answer key is_repeated row =
-    record { number = row.number; findings = findings order sheet answer key is_repeated row }
+abbrev pub checked_row : Option DateOrder → Sheet → RowAnswer → Likes → Option Key → Bool → SheetRow → CheckedRow
+checked_row order sheet answer likes key is_repeated row =
+    record { number = row.number; findings = findings order sheet answer likes key is_repeated row }
 
 -- ---- all rows
 -- where there is no answer, nothing is refused
 abbrev pub or_nothing : Option RowAnswer → RowAnswer
-or_nothing None = record { place = None; is_taken = false }
+or_nothing None = record { place = None; is_taken = false; news = [] }
 or_nothing (Some answer) = answer
 
 abbrev pub answer_at : List RowAnswer → ℕ → RowAnswer
@@ -114,9 +135,9 @@ abbrev pub is_repeated : Sheet → List SheetRow → SheetRow → Bool
 is_repeated sheet before row = is_among (have_words sheet before) (key_of sheet row)
 
 -- the rows from this place on, after those before
-abbrev pub checked_rows : Option DateOrder → Sheet → List RowAnswer → ℕ → List SheetRow → List SheetRow
+abbrev pub checked_rows : Option DateOrder → Sheet → List RowAnswer → Likes → ℕ → List SheetRow → List SheetRow
     → List CheckedRow
-checked_rows order sheet answers at before [] = []
-checked_rows order sheet answers at before (row ∷ rows) =
-    checked_row order sheet (answer_at answers at) (key_of sheet row) (is_repeated sheet before row) row
-    ∷ checked_rows order sheet answers (at + 1) (before ++ row ∷ []) rows
+checked_rows order sheet answers likes at before [] = []
+checked_rows order sheet answers likes at before (row ∷ rows) =
+    checked_row order sheet (answer_at answers at) likes (key_of sheet row) (is_repeated sheet before row) row
+    ∷ checked_rows order sheet answers likes (at + 1) (before ++ row ∷ []) rows

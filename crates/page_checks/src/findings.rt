@@ -20,6 +20,10 @@ pub(crate) enum Doubt {
     Page,
     /// A text of more than 20 lines.
     Long,
+    /// A place that is to be made.
+    NewPlace,
+    /// A place of the archive that one that is to be made is like.
+    Like,
 }
 
 /// What is found.

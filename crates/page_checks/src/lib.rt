@@ -1,17 +1,15 @@
 //! A page of register entries, looked over against an archive: what of it would be refused, and what is doubtful.
 //!
-//! It uses `table_pages` and `page_entries` for the page, `command_checks` for what an archive refuses, and `searching`
-//! for texts as they are printed.
+//! It uses `table_pages` and `page_entries` for the page, `page_answers` for what an archive answers for its rows, and
+//! `searching` for texts as they are printed.
 //!
 //! Callers may rely on: each row is looked at, whatever is wrong with those before it; the lines are those of the
 //! definition, of the page and of what the archive has; the archive is only looked at, by a `View`, which no call
 //! changes.
 #![tactic(auto)]
 
-mod answers;
 mod cells;
 mod findings;
-mod keys;
 pub mod laws;
 mod lines;
 mod page;

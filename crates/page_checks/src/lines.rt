@@ -132,6 +132,8 @@ fn doubt_word(doubt: Doubt) -> &'static str
         Doubt::NoPage => "no page",
         Doubt::Page => "page",
         Doubt::Long => "long",
+        Doubt::NewPlace => "new place",
+        Doubt::Like => "like",
     }
 }
 

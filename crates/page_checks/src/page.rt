@@ -4,14 +4,15 @@ ghost use Rattle.std.specs.Prelude.{◌≡◌, IfOk};
 ghost use Rattle.archive_state.specs.Looks.{Agrees, CountsFailures, is_stop};
 ghost use Rattle.archive_state.specs.Views.{On};
 ghost use Rattle.page_checks.specs.Page as checks;
+ghost use Rattle.page_answers.specs.Likes.{like_in};
 
-use crate::answers::{RowAnswer, answers_of};
 use crate::findings::CheckedRow;
 use crate::lines::{count_wrong, text_of};
-use crate::rows::checked_rows;
+use crate::rows::{Answers, checked_rows};
 use archive_state::View;
 use command_checks::{Demand, check_demand};
 use commands::Field;
+use page_answers::{answers_of, likes_for};
 use page_entries::DateOrder;
 use record_text::RefusalKind;
 use std::alloc::{AllocError, Global};
@@ -26,22 +27,24 @@ pub struct PageCheck {
     pub is_wrong: bool,
 }
 
-/// Looks a page in UTF-8 over, whose entries would be of a source. Nothing is changed. `Ok(Err(..))`: the page cannot
-/// be read as a sheet. 50, 51: the number is of no record, or of another than a source. All other refusals are those
-/// of the view: 1, 40 or 80.
+/// Looks a page in UTF-8 over, whose entries would be of a source. Nothing is changed. Where places are to be made that
+/// its paths name, each is a doubt, with the paths of places that it is like. `Ok(Err(..))`: the page cannot be read as
+/// a sheet. 50, 51: the number is of no record, or of another than a source. All other refusals are those of the view:
+/// 1, 40 or 80.
 pub fn check_page<V: View>(
     alloc: Global,
     view: &mut V,
     source: u32,
     order: Option<DateOrder>,
+    makes: bool,
     bytes: &[u8],
 ) -> Result<Result<PageCheck, PageFault>, RefusalKind>
     ensures decides { On V.View view.old view.new
-        (λ c. Agrees is_stop result (checks.page_check c source order bytes.now)) }
+        (λ c. Agrees is_stop result (checks.page_check c source order makes bytes.now)) }
     ensures counts { CountsFailures (V.failed view.old) (V.failed view.new) result }
 {
     match read_sheet(alloc, bytes)? {
-        Ok(sheet) => check_sheet(alloc, view, source, order, &sheet),
+        Ok(sheet) => check_sheet(alloc, view, source, order, makes, &sheet),
         Err(fault) => Ok(Err(fault)),
     }
 }
@@ -51,15 +54,17 @@ fn check_sheet<V: View>(
     view: &mut V,
     source: u32,
     order: Option<DateOrder>,
+    makes: bool,
     sheet: &Sheet,
 ) -> Result<Result<PageCheck, PageFault>, RefusalKind>
     ensures decides { On V.View view.old view.new
-        (λ c. Agrees is_stop result (checks.sheet_check c source order sheet.now)) }
+        (λ c. Agrees is_stop result (checks.sheet_check c source order makes sheet.now)) }
     ensures counts { CountsFailures (V.failed view.old) (V.failed view.new) result }
 {
     check_demand(alloc, view, Demand::Source, source)?;
-    let answers = answers_of(alloc, view, source, sheet)?;
-    let found = found_with(alloc, order, sheet, &answers)?;
+    let rows = answers_of(alloc, view, source, makes, sheet)?;
+    let likes = likes_for(alloc, view, &rows)?;
+    let found = found_with(alloc, order, sheet, &Answers { rows, likes })?;
     Ok(Ok(found))
 }
 
@@ -68,9 +73,10 @@ fn found_with(
     alloc: Global,
     order: Option<DateOrder>,
     sheet: &Sheet,
-    answers: &[RowAnswer],
+    answers: &Answers,
 ) -> Result<PageCheck, AllocError>
-    ensures { IfOk result (λ found. found ≡ checks.found_with order sheet.now answers.now) }
+    ensures { IfOk result (λ found. found
+        ≡ checks.found_with order sheet.now answers.now.rows.items (like_in answers.now.likes)) }
 {
     let rows = checked_rows(alloc, order, sheet, answers)?;
     found_in(alloc, &rows)

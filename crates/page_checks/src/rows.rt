@@ -1,31 +1,39 @@
 //! What is found in the rows of a page.
 
-ghost use Rattle.std.specs.Prelude.{◌≡◌, ◌++◌, [], IfOk, MatchOption, OnOk, drop, string_bytes};
+ghost use Rattle.std.specs.Prelude.{◌≡◌, ◌++◌, [], IfOk, MatchOption, OnOk, drop, flat_map, string_bytes};
 ghost use Rattle.table_pages.specs.declared.fault.FaultKind.TheVariants as kind;
-ghost use Rattle.page_checks.specs.Findings.{found as one_found};
+ghost use Rattle.page_checks.specs.Cells.{what_of as what_in};
+ghost use Rattle.page_checks.specs.Findings.{found as one_found, maybe};
 ghost use Rattle.page_checks.specs.Rows as rows;
 ghost use Rattle.page_checks.specs.declared.findings.What.TheVariants as what;
+ghost use Rattle.page_answers.specs.Likes.{like_in};
 
-use crate::answers::RowAnswer;
 use crate::cells::{Known, what_of};
-use crate::findings::{CheckedRow, Finding, Findings, What, push_found, push_maybe};
-use crate::keys::{Key, key_of, see};
+use crate::findings::{CheckedRow, Doubt, Finding, Findings, What, push_found, push_maybe};
 use commands::Field;
+use page_answers::{Key, PlaceIndex, RowAnswer, key_of, see};
 use page_entries::{DateOrder, cell_at, cell_under, kind_in, mentions_in};
 use record_text::RefusalKind;
 use std::alloc::{AllocError, Global};
 use std::collections::BTreeSet;
 use table_pages::{Column, FaultKind, Sheet, SheetRow};
 
+/// What an archive answers for the rows of a page, and the paths of its places.
+#[derive(Drop)]
+pub(crate) struct Answers {
+    pub rows: Vec<RowAnswer>,
+    pub likes: PlaceIndex,
+}
+
 /// The rows of a sheet, each with what is found in it, given what the archive answers for each.
 pub(crate) fn checked_rows(
     alloc: Global,
     order: Option<DateOrder>,
     sheet: &Sheet,
-    answers: &[RowAnswer],
+    answers: &Answers,
 ) -> Result<Vec<CheckedRow>, AllocError>
-    ensures { IfOk result
-        (λ found. found.items ≡ rows.checked_rows order sheet.now answers.now 0 [] sheet.now.rows) }
+    ensures { IfOk result (λ found. found.items ≡ rows.checked_rows order sheet.now answers.now.rows.items
+        (like_in answers.now.likes) 0 [] sheet.now.rows) }
 {
     let mut checked = Vec::new(alloc);
     let mut seen = BTreeSet::new(alloc);
@@ -34,24 +42,40 @@ pub(crate) fn checked_rows(
     for row in rows {
         let key = key_of(alloc, sheet, row)?;
         let is_repeated = see(alloc, &mut seen, &key)?;
-        let answer = answer_at(answers, at);
-        let found = checked_row(alloc, order, sheet, answer, &key, is_repeated, row)?;
+        let found = checked_row(alloc, order, sheet, answers, at, &key, is_repeated, row)?;
         checked.push(found)?;
         at += 1;
     }
     Ok(checked)
 }
 
-/// The answer at a place; nothing is refused where there is none.
-fn answer_at(answers: &[RowAnswer], at: usize) -> RowAnswer
-    ensures { result ≡ rows.answer_at answers.now at }
+/// Why the place of a row would be refused, if it would.
+fn place_at(answers: &[RowAnswer], at: usize) -> Option<RefusalKind>
+    ensures { result ≡ (rows.answer_at answers.now at).place }
 {
     match answers.get(at) {
-        Some(answer) => *answer,
-        None => RowAnswer {
-            place: None,
-            is_taken: false,
-        },
+        Some(answer) => answer.place,
+        None => None,
+    }
+}
+
+/// Whether an entry of the archive has the key of a row.
+fn taken_at(answers: &[RowAnswer], at: usize) -> bool
+    ensures { result ≡ (rows.answer_at answers.now at).is_taken }
+{
+    match answers.get(at) {
+        Some(answer) => answer.is_taken,
+        None => false,
+    }
+}
+
+/// The paths of the places that are to be made for a row.
+fn news_at(answers: &[RowAnswer], at: usize) -> &[Field]
+    ensures { result.now ≡ (rows.answer_at answers.now at).news }
+{
+    match answers.get(at) {
+        Some(answer) => answer.news.fields(),
+        None => &[],
     }
 }
 
@@ -60,28 +84,32 @@ fn checked_row(
     alloc: Global,
     order: Option<DateOrder>,
     sheet: &Sheet,
-    answer: RowAnswer,
+    answers: &Answers,
+    at: usize,
     key: &Option<Key>,
     is_repeated: bool,
     row: &SheetRow,
 ) -> Result<CheckedRow, AllocError>
-    ensures { IfOk result (λ r. r ≡ rows.checked_row order sheet.now answer key.now is_repeated row.now) }
+    ensures { IfOk result (λ r. r ≡ rows.checked_row order sheet.now (rows.answer_at answers.now.rows.items at)
+        (like_in answers.now.likes) key.now is_repeated row.now) }
 {
     let kind = kind_in(alloc, cell_under(sheet, row, Column::Kind))?;
     let known = Known {
         order,
         kind,
-        place: answer.place,
+        place: place_at(&answers.rows, at),
     };
+    let news = news_at(&answers.rows, at);
     let mut found = Vec::new(alloc);
-    push_columns(alloc, &mut found, known, sheet, row)?;
+    push_columns(alloc, &mut found, known, &answers.likes, news, sheet, row)?;
     push_beyond(
         alloc,
         &mut found,
         cells_after(row.cells.fields(), sheet.columns().len()),
     )?;
     push_names(alloc, &mut found, sheet, row)?;
-    push_key(alloc, &mut found, key, answer.is_taken || is_repeated)?;
+    let is_taken = taken_at(&answers.rows, at);
+    push_key(alloc, &mut found, key, is_taken || is_repeated)?;
     Ok(CheckedRow {
         number: row.number,
         findings: Findings::new(found),
@@ -93,23 +121,27 @@ fn push_columns(
     alloc: Global,
     out: &mut Vec<Finding>,
     known: Known,
+    likes: &PlaceIndex,
+    news: &[Field],
     sheet: &Sheet,
     row: &SheetRow,
 ) -> Result<(), AllocError>
-    ensures { OnOk result (out.new.items ≡ out.old.items
-        ++ rows.under_columns known sheet.now.names row.now.cells 0 sheet.now.columns) }
+    ensures { OnOk result (out.new.items ≡ out.old.items ++ rows.under_columns known (like_in likes.now) news.now
+        sheet.now.names row.now.cells 0 sheet.now.columns) }
 {
     let columns = sheet.columns();
     let mut at = 0;
     for column in columns {
+        let name = cell_at(sheet.names(), at);
         push_cell(
             alloc,
             out,
             known,
             *column,
-            cell_at(sheet.names(), at),
+            name,
             cell_at(row.cells.fields(), at),
         )?;
+        push_news(alloc, out, likes, news, *column, name)?;
         at += 1;
     }
     Ok(())
@@ -123,10 +155,75 @@ fn push_cell(
     name: &str,
     cell: &str,
 ) -> Result<(), AllocError>
-    ensures { OnOk result (out.new.items ≡ out.old.items ++ rows.under_column known column name.now cell.now) }
+    ensures { OnOk result (out.new.items ≡ out.old.items ++ maybe (what_in known column cell.now) name.now cell.now) }
 {
     let what = what_of(alloc, known, column, cell)?;
     push_maybe(alloc, out, what, name, cell)
+}
+
+/// Adds under the column of the place what is to be made for it.
+fn push_news(
+    alloc: Global,
+    out: &mut Vec<Finding>,
+    likes: &PlaceIndex,
+    news: &[Field],
+    column: Column,
+    name: &str,
+) -> Result<(), AllocError>
+    ensures { OnOk result (out.new.items ≡ out.old.items
+        ++ rows.of_news (like_in likes.now) news.now column name.now) }
+{
+    match column {
+        Column::Place => push_paths(alloc, out, likes, news, name),
+        _ => Ok(()),
+    }
+}
+
+fn push_paths(
+    alloc: Global,
+    out: &mut Vec<Finding>,
+    likes: &PlaceIndex,
+    news: &[Field],
+    name: &str,
+) -> Result<(), AllocError>
+    ensures { OnOk result (out.new.items ≡ out.old.items
+        ++ flat_map (rows.of_new (like_in likes.now) name.now) news.now) }
+{
+    'each: for path in news {
+        push_path(alloc, out, likes, path, name)?;
+    }
+    Ok(())
+}
+
+/// Adds a path that is to be made, and those that it is like.
+fn push_path(
+    alloc: Global,
+    out: &mut Vec<Finding>,
+    likes: &PlaceIndex,
+    path: &Field,
+    name: &str,
+) -> Result<(), AllocError>
+    ensures { OnOk result (out.new.items ≡ out.old.items ++ rows.of_new (like_in likes.now) name.now path.now) }
+{
+    let new = What::Doubtful(Doubt::NewPlace);
+    push_found(alloc, out, new, name, path.as_str())?;
+    let found = likes.like(alloc, path.as_str())?;
+    push_likes(alloc, out, found, name)
+}
+
+fn push_likes(
+    alloc: Global,
+    out: &mut Vec<Finding>,
+    found: &[String],
+    name: &str,
+) -> Result<(), AllocError>
+    ensures { OnOk result (out.new.items ≡ out.old.items
+        ++ flat_map (λ path. rows.of_like name.now (string_bytes path)) found.now) }
+{
+    'each: for path in found {
+        push_found(alloc, out, What::Doubtful(Doubt::Like), name, path.as_str())?;
+    }
+    Ok(())
 }
 
 /// The cells after so many.

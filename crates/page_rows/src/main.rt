@@ -1,6 +1,6 @@
 //! Looks the pages of standard input over against a small archive, and writes what is found. A page begins with a line
-//! of `==`, the number of a source and `dmy`, `mdy` or `-`, and goes on up to the next such line. A tool of tests, no
-//! part of the product.
+//! of `==`, the number of a source and `dmy`, `mdy` or `-`, then `make` where places are to be made, and goes on up to
+//! the next such line. A tool of tests, no part of the product.
 #![tactic(auto)]
 
 mod archive;
@@ -51,8 +51,9 @@ fn answer(alloc: Global, state: &State, head: &str, page: &str) -> io::Result<St
         "mdy" => Some(DateOrder::MonthFirst),
         _ => None,
     };
+    let makes = words.next().unwrap_or("-") == "make";
     let mut view: &State = state;
-    match check_page(alloc, &mut view, source, order, page.as_bytes()) {
+    match check_page(alloc, &mut view, source, order, makes, page.as_bytes()) {
         Ok(Ok(found)) => Ok(checked(alloc, found.text.as_str(), found.is_wrong)?),
         Ok(Err(fault)) => {
             let row = fault.row;

@@ -16,7 +16,11 @@ order_of named.MonthFirst = order.MonthFirst
 
 -- how it is read
 abbrev pub form_of : TableWords → TableForm
-form_of words = record { set = option_map set_of words.set; order = option_map order_of words.order }
+form_of words = record {
+  set = option_map set_of words.set;
+  order = option_map order_of words.order;
+  makes = words.makes;
+}
 
 abbrev pub table_task : ℕ → TableWords → Task
 table_task source words = task.CheckTable source (form_of words)

@@ -36,6 +36,7 @@ fn form_of(words: TableWords) -> TableForm
     TableForm {
         set: asked(words.set),
         order: order_given(words.order),
+        makes: words.makes,
     }
 }
 

@@ -4,7 +4,8 @@
 //! for how lines are read, and `record_changes` for the change of one record.
 //!
 //! Callers may rely on: `correct` over any view answers the changes that, made, are the step of the definition, or its
-//! refusal, and changes nothing itself; the changes are only of what differs; and the laws of `laws`.
+//! refusal, and changes nothing itself; the changes are only of what differs; `path_at` over any view answers the path
+//! of a place; and the laws of `laws`.
 #![tactic(auto)]
 
 mod correcting;
@@ -18,3 +19,4 @@ mod reading;
 mod within;
 
 pub use correcting::correct;
+pub use paths::path_at;

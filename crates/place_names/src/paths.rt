@@ -15,7 +15,7 @@ use std::alloc::Global;
 /// The path of the place of a number. `None`: no place stands there, or one without a path. It reads as many places as
 /// the path has names.
 #[tactic(auto, using(crate::proofs::Climbed::path_none, crate::proofs::Climbed::path_top))]
-pub(crate) fn path_at<V: View>(
+pub fn path_at<V: View>(
     alloc: Global,
     view: &mut V,
     number: u32,

@@ -18,6 +18,7 @@ use Rattle.std.specs.Prelude.{
   filter,
   flat_map,
   Contains,
+  encode_utf8_all,
   Option,
   Some,
   None,
@@ -56,6 +57,10 @@ filled ((c ∷ cs) ∷ keys) = (c ∷ cs) ∷ filled keys
 -- the keys of the words of a text, in order
 abbrev pub words_of : List ℕ → List (List ℕ)
 words_of text = filled (map key_of (slice_split is_gap text))
+
+-- words as one text in UTF-8, each with a space after it
+abbrev pub key_text : List (List ℕ) → List ℕ
+key_text words = flat_map (λ word. encode_utf8_all word ++ 32 ∷ []) words
 
 -- the first character of the first word
 abbrev pub initial : List (List ℕ) → Option ℕ

@@ -1,7 +1,22 @@
 //! What is searched, and the words that are searched for.
 
-ghost use Rattle.std.specs.Prelude.{◌≡◌, ◌≢◌, ◌↔◌, ◌++◌, [], ◌∷◌, true, map, IfOk, OnOk, IsTrue, chars};
-ghost use Rattle.std.specs.List.{list_all};
+ghost use Rattle.std.specs.Prelude.{
+  ◌≡◌,
+  ◌≢◌,
+  ◌↔◌,
+  ◌++◌,
+  [],
+  ◌∷◌,
+  true,
+  map,
+  IfOk,
+  OnOk,
+  IsTrue,
+  chars,
+  encode_utf8_all,
+  string_bytes,
+};
+ghost use Rattle.std.specs.List.{flat_map, list_all};
 ghost use Rattle.searching.specs.Folding.{folded_name, folded_text};
 ghost use Rattle.searching.specs.Scans.{
   begins_text,
@@ -19,6 +34,7 @@ ghost use Rattle.searching.specs.Words.{
   is_apostrophe as apostrophe_test,
   is_letter as letter_test,
   is_word as word_test,
+  key_text,
   words_of,
 };
 
@@ -111,12 +127,50 @@ impl SearchWords {
         initial(&self.words)
     }
 
+    /// The words as one text, each with a space after it: the same for two texts that differ only in case, marks,
+    /// composition, apostrophes and what parts their words.
+    #[tactic(auto, using(crate::proofs::Keyed::key_is))]
+    pub fn key(&self, alloc: Global) -> Result<String, AllocError>
+        ensures { IfOk result (λ key. string_bytes key ≡ key_text self.now) }
+    {
+        let mut key = String::new(alloc);
+        push_key(&mut key, &self.words)?;
+        Ok(key)
+    }
+
     /// Whether each of the words begins a word of the text. Takes no memory.
     pub fn occur_in(&self, text: &SearchText) -> bool
         ensures { result ≡ occur_test self.now text.now }
     {
         all_occur(&self.words, &text.characters)
     }
+}
+
+/// Adds words, each with a space after it.
+fn push_key(out: &mut String, words: &[Vec<char>]) -> Result<(), AllocError>
+    ensures { OnOk result (string_bytes out.new ≡ string_bytes out.old
+        ++ flat_map (λ w. encode_utf8_all (items w) ++ 32 ∷ []) words.now) }
+{
+    'each: for word in words {
+        push_word_key(out, word)?;
+    }
+    Ok(())
+}
+
+fn push_word_key(out: &mut String, word: &[char]) -> Result<(), AllocError>
+    ensures { OnOk result (string_bytes out.new ≡ string_bytes out.old ++ (encode_utf8_all word.now ++ 32 ∷ [])) }
+{
+    push_characters(out, word)?;
+    out.push_str(" ")
+}
+
+fn push_characters(out: &mut String, word: &[char]) -> Result<(), AllocError>
+    ensures { OnOk result (string_bytes out.new ≡ string_bytes out.old ++ encode_utf8_all word.now) }
+{
+    'each: for c in word {
+        out.push(*c)?;
+    }
+    Ok(())
 }
 
 /// The first character of the first of these.

@@ -37,6 +37,8 @@ use Rattle.archive_tables.specs.Ends.{EndsWriting, OnRead, OnRows}
 use Rattle.archive_tables.specs.Remembering.{EndsHistory}
 use Rattle.archive_tables.specs.Texts.{list_of, shown_text}
 use Rattle.archive_tables.specs.Entering.{EntersPage}
+use Rattle.archive_tables.specs.Making.{EntersPlaced}
+use Rattle.archive_tables.specs.declared.making.MadePlace.{MadePlace}
 use Rattle.archive_tables.specs.RowBatches.{Enters, IsNoBatch}
 use Rattle.archive_state.specs.Content.{Content}
 use Rattle.archive_state.specs.Looks.{is_failure}
@@ -70,7 +72,7 @@ use Rattle.tasks.specs.Moments.{Moment}
 use Rattle.tasks.specs.Parts.{IsPrintedPart, PrintsAudit, Shelves}
 use Rattle.tasks.specs.Status.{Outcome, Plain, as_text, is_80, placeless_text}
 use Rattle.tasks.specs.Stopping.{Concludes, Stopping, as_stopped}
-use Rattle.tasks.specs.Tables.{PageEntering, SaysPage}
+use Rattle.tasks.specs.Tables.{PageEntering, SaysPage, SaysPlaces}
 use Rattle.tasks.specs.Texts.{made_text}
 use Rattle.tasks.specs.declared.task.TableForm.{TableForm}
 use Rattle.tasks.specs.declared.task.Task.{Task}
@@ -177,11 +179,11 @@ module _ {S R W F : Type 0} (g : Ghosts S) (reader : read.Ghosts R) (reads : dev
 
   -- this text was looked over: a line for all that is wrong or doubtful was printed, or a prefix of that; or the
   -- faults got why they are no table
-  pub record LooksOver (source : ℕ) (order : Option DateOrder) (text : List ℕ) (outcome : Outcome) : Type 0 where
+  pub record LooksOver (source : ℕ) (form : TableForm) (text : List ℕ) (outcome : Outcome) : Type 0 where
     pub found : Checking
     pub is : outcome ≡ as_checked found
     pub ended : OnRead (state g a.archive.conn) (state g b.archive.conn) (λ c. EndsChecking found
-        (writer.contents a.output) (writer.contents b.output) (page_check c source order text))
+        (writer.contents a.output) (writer.contents b.output) (page_check c source form.order form.makes text))
     pub said : SaysFound faulter.contents fails.failed found a.faults b.faults
     pub unread : IfErr found (λ kind. is_failure kind ≡ true → PrintsNothing)
     pub blamed : IfErr found (λ kind. kind ≡ WriteFailed → HasWriteFailed)
@@ -191,7 +193,7 @@ module _ {S R W F : Type 0} (g : Ghosts S) (reader : read.Ghosts R) (reads : dev
   -- the table of the input was looked over, whether the archive is sound or not; or it was not read
   abbrev pub ChecksTable : ℕ → TableForm → Outcome → Type 0
   ChecksTable source form outcome = IsNoTable outcome
-      ⊎ ((text : List ℕ) × IsText form.set (reader.remaining a.input) text × LooksOver source form.order text outcome)
+      ⊎ ((text : List ℕ) × IsText form.set (reader.remaining a.input) text × LooksOver source form text outcome)
 
   -- ---- a table that is entered, under a token
   -- this was made of it, or why it was refused
@@ -205,11 +207,26 @@ module _ {S R W F : Type 0} (g : Ghosts S) (reader : read.Ghosts R) (reads : dev
       × SaysPage writer.contents writes.failed faulter.contents fails.failed outcome a.output b.output a.faults
       b.faults r
 
+  -- the same, where the places that it lacks were made first, and the faults got a line for each of them
+  pub record MakesText (token : List ℕ) (source : ℕ) (order : Option DateOrder) (text : List ℕ) (outcome : Outcome)
+      : Type 0 where
+    pub made : List MadePlace
+    pub r : PageEntering
+    pub entered : EntersPlaced g token source order text a.archive made r b.archive
+    pub between : F
+    pub told : SaysPlaces faulter.contents fails.failed a.faults between made
+    pub said : SaysPage writer.contents writes.failed faulter.contents fails.failed outcome a.output b.output between
+        b.faults r
+
+  abbrev pub EntersBy : Bool → List ℕ → ℕ → Option DateOrder → List ℕ → Outcome → Type 0
+  EntersBy false token source order text outcome = EntersText token source order text outcome
+  EntersBy true token source order text outcome = MakesText token source order text outcome
+
   -- the table of the input was entered, or refused; or it was not read
   abbrev pub EntersTable : List ℕ → ℕ → TableForm → Outcome → Type 0
   EntersTable token source form outcome = IsNoTable outcome
       ⊎ ((text : List ℕ) × IsText form.set (reader.remaining a.input) text
-      × EntersText token source form.order text outcome)
+      × EntersBy form.makes token source form.order text outcome)
 
   -- ---- a file, under a token
   abbrev pub FileWhole : List ℕ → Answer → List ReportLine → Type 0

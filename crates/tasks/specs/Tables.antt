@@ -18,8 +18,10 @@ use Rattle.std.specs.Prelude.{
   if◌then◌else◌,
 }
 use Rattle.std.specs.Fmt.{decimal}
+use Rattle.std.specs.List.{flat_map}
 use Rattle.std.specs.Io.KnownBytes.{Appends}
 use Rattle.archive_tables.specs.declared.entering.PageEnd.{PageEnd}
+use Rattle.archive_tables.specs.declared.making.MadePlace.{MadePlace}
 use Rattle.archive_tables.specs.declared.entering.PageEnd.TheVariants.{Entered, Unread}
 use Rattle.devices.specs.Devices.{Rose}
 use Rattle.page_batches.specs.declared.rows.BatchRefusal.{BatchRefusal}
@@ -28,6 +30,7 @@ use Rattle.receipts.specs.declared.answer.Answer.{Answer}
 use Rattle.record_text.specs.declared.refusal.RefusalKind.{RefusalKind}
 use Rattle.record_text.specs.declared.refusal.RefusalKind.TheVariants.{OutOfMemory}
 use Rattle.record_text.specs.declared.refusal.Unit.TheVariants as unit
+use Rattle.searching.specs.Printing.{shown}
 use Rattle.table_pages.specs.declared.fault.PageFault.{PageFault}
 use Rattle.tasks.specs.Checking.{bad_rows}
 use Rattle.tasks.specs.Faults.{IsReported}
@@ -42,6 +45,14 @@ PageEntering = Result PageEnd BatchRefusal
 -- how many dates of a page have no days but words; nothing, where there are none
 abbrev pub words_text : ℕ → List ℕ
 words_text n = if n == 0 then [] else decimal n ++ (codes " dates have no days but words" ++ 10 ∷ [])
+
+-- a place that was made
+abbrev pub place_line : MadePlace → List ℕ
+place_line m = codes "place " ++ (decimal m.number ++ (codes " is new: " ++ (shown m.path ++ 10 ∷ [])))
+
+-- a line was said for each place that was made; or no memory was found for them, and nothing is said
+abbrev pub SaysPlaces : {F : Type 0} → (F → Option (List ℕ)) → (F → ℕ) → F → F → List MadePlace → Type 0
+SaysPlaces said fails old new made = IsReported said fails old new (flat_map place_line made) ⊎ (new ≡ old)
 
 -- the lines of a fault were said, after which nothing more is; or no memory was found for them. `said` is what the
 -- faults have got, `fails` how often they failed

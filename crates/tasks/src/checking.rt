@@ -45,7 +45,8 @@ pub(crate) fn check_table<S: Alter, R: Read + Device, W: Write + Device, F: Faul
 {
     match read_table(alloc, form.set, input) {
         Ok(text) => {
-            let found = write_check(alloc, archive, source, form.order, &text, output);
+            let TableForm { order, makes, .. } = form;
+            let found = write_check(alloc, archive, source, order, makes, &text, output);
             conclude_check(found, faults)
         }
         Err(kind) => Err(placeless(kind)),

@@ -1,6 +1,7 @@
 //! A table of register entries, entered on an archive that is open.
 
-ghost use Rattle.std.specs.Prelude.{◌≡◌, IfErr, OnOk, false};
+ghost use Rattle.std.specs.Prelude.{◌≡◌, IfErr, IfOk, OnOk, false, string_bytes};
+ghost use Rattle.std.specs.List.{flat_map};
 ghost use Rattle.std.specs.Io.KnownBytes.{Appends};
 ghost use Rattle.devices.specs.Devices.{Rose};
 ghost use Rattle.record_text.specs.declared.refusal.RefusalKind.{RefusalKind as SpecKind};
@@ -8,7 +9,7 @@ ghost use Rattle.tasks.specs.Ends.{EntersTable};
 ghost use Rattle.tasks.specs.Faults.{IsReported};
 ghost use Rattle.tasks.specs.Parts.{IsPrintedPart};
 ghost use Rattle.tasks.specs.Status.{placeless_text};
-ghost use Rattle.tasks.specs.Tables.{SaysFault, SaysPage, words_text};
+ghost use Rattle.tasks.specs.Tables.{SaysFault, SaysPage, SaysPlaces, place_line, words_text};
 ghost use Rattle.tasks.specs.Texts.{made_text};
 
 use crate::checking::read_table;
@@ -16,7 +17,7 @@ use crate::entering::print_made;
 use crate::faults::FaultStream;
 use crate::status::placeless;
 use crate::task::TableForm;
-use archive_tables::{PageEnd, enter_page};
+use archive_tables::{MadePlace, PageEnd, enter_page, enter_with_places};
 use arrayvec::ArrayString;
 use devices::Device;
 use itoa::Buffer;
@@ -24,8 +25,9 @@ use page_batches::BatchRefusal;
 use page_checks::page_lines;
 use receipts::{Answer, Token};
 use record_text::{RefusalKind, RefusalText, Unit};
+use searching::shown;
 use sqlite::Alter;
-use std::alloc::Global;
+use std::alloc::{AllocError, Global};
 use std::io::{Read, Write};
 use store::Archive;
 use table_pages::PageFault;
@@ -35,6 +37,8 @@ const LINE: usize = 64;
 
 /// Reads the table of the input, and enters its rows as a batch of a source, under a token; prints how many entries
 /// were made, with the number of the first, and the faults get how many dates have no days but words.
+///
+/// Where that is asked for, the places that it lacks are made first, and the faults get a line for each of them.
 ///
 /// Refusals as of `archive_tables::enter_page`, with the row, after a line of the cell where one is to blame; nothing
 /// is printed then. 90: the page has a fault, whose lines the faults have got. 94: the input failed. 27: it has more
@@ -58,11 +62,48 @@ pub(crate) fn enter_table<S: Alter, R: Read + Device, W: Write + Device, F: Faul
 {
     match read_table(alloc, form.set, input) {
         Ok(text) => {
+            if form.makes {
+                let mut made = Vec::new(alloc);
+                let end = enter_with_places(
+                    alloc, archive, token, source, form.order, &text, &mut made,
+                );
+                say_places(alloc, &made, faults);
+                return say_page(alloc, end, output, faults);
+            }
             let end = enter_page(alloc, archive, token, source, form.order, &text);
             say_page(alloc, end, output, faults)
         }
         Err(kind) => Err(placeless(kind)),
     }
+}
+
+/// Reports the places that were made, a line each; nothing where memory for that is refused.
+fn say_places<F: FaultStream>(alloc: Global, made: &[MadePlace], faults: &mut F)
+    ensures { SaysPlaces F.contents F.failed faults.old faults.new made.now }
+{
+    match places_text(alloc, made) {
+        Ok(text) => faults.report(text.as_bytes()),
+        Err(_) => {}
+    }
+}
+
+/// A line for each place that was made.
+fn places_text(alloc: Global, made: &[MadePlace]) -> Result<String, AllocError>
+    ensures { IfOk result (λ text. string_bytes text ≡ flat_map place_line made.now) }
+{
+    let mut text = String::new(alloc);
+    for place in made {
+        text.push_str(place_text(alloc, place)?.as_str())?;
+    }
+    Ok(text)
+}
+
+fn place_text(alloc: Global, place: &MadePlace) -> Result<String, AllocError>
+    ensures { IfOk result (λ text. string_bytes text ≡ place_line place.now) }
+{
+    let number = place.number;
+    let path = shown(alloc, place.path.as_str())?;
+    format!(in alloc; "place {number} is new: {path}\n")
 }
 
 /// Prints what entering a page has come to, or says why it was refused.

@@ -14,6 +14,8 @@ pub struct TableForm {
     pub set: Option<CharacterSet>,
     /// The order of a date of three numbers, if one is given.
     pub order: Option<DateOrder>,
+    /// Whether the places are made that its paths name and the archive does not have.
+    pub makes: bool,
 }
 
 /// What is asked of an archive that is open. Days are counted from 1970-01-01, day 0.

@@ -20,7 +20,7 @@ returns-clause-ended g c =
     let last = c.check_page-found.new.view in
     let before = g.W.Write.contents c.args.writer.now in
     let after = g.W.Write.contents c.write_checked.new.writer in
-    let right : Content → Right = λ k. page_check k c.args.source c.args.order c.args.bytes.now in
+    let right : Content → Right = λ k. page_check k c.args.source c.args.order c.args.makes c.args.bytes.now in
     moved g.S.Store was.conn first.conn last.conn c.put_back.new.self.conn c.set_aside-import.ensures.conn
     c.put_back.ensures.conn
     (λ old new. OnRead old new (λ of. EndsChecking c.write_checked.result before after (right of)))
@@ -33,7 +33,7 @@ returns-clause-ended g c =
     c.check_page-found.ensures.decides c.is_lost.result (c.is_lost.ensures ∙ c.put_back.ensures.lost)
     c.check_page-found.ensures.counts
     (λ of sure agrees. c.write_checked.ensures.ended (right of) sure agrees
-    (never_written of c.args.source c.args.order c.args.bytes.now)))
+    (never_written of c.args.source c.args.order c.args.makes c.args.bytes.now)))
 
 pub returns-clause-lost : goal.returns-clause-lost
 returns-clause-lost g c = sym c.is_lost.ensures ∙ sym c.write_checked.ensures.lost
@@ -44,7 +44,7 @@ returns-clause-reads g c =
     let first = c.set_aside-import.new.self in
     let last = c.check_page-found.new.view in
     let new = c.put_back.new.self in
-    let right : Content → Right = λ k. page_check k c.args.source c.args.order c.args.bytes.now in
+    let right : Content → Right = λ k. page_check k c.args.source c.args.order c.args.makes c.args.bytes.now in
     let same = c.put_back.ensures.back ∙ c.set_aside-import.ensures.aside in
     let stays = aside_stays g.S.Store was.conn first.conn last.conn new.conn last.is_lost new.is_lost
     c.set_aside-import.ensures.conn c.put_back.ensures.conn c.put_back.ensures.lost

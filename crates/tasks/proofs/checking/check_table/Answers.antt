@@ -11,7 +11,7 @@ returns-in-Ok g c =
     let ended = subst (λ (bs : List ℕ). OnRead (state g.S.Store c.args.archive.now.conn)
     (state g.S.Store c.write_check-found.new.archive.conn) (λ k. EndsChecking c.write_check-found.result
     (g.W.Write.contents c.args.output.now) (g.W.Write.contents c.write_check-found.new.writer)
-    (page_check k c.args.source c.args.form.order bs))) c.deref.ensures.value did.ended in
+    (page_check k c.args.source c.args.form.order c.args.form.makes bs))) c.deref.ensures.value did.ended in
     inr (
       c.in-Ok.text.items,
       c.in-Ok.ensures.text,

@@ -1,0 +1,4 @@
+pub mod Answers
+pub mod Keys
+pub mod Likes
+pub mod NewPlaces
