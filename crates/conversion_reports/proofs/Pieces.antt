@@ -38,6 +38,7 @@ use Rattle.conversion_reports.specs.Report.{
   of_written,
   others,
   read_lines,
+  report_by,
   report_text,
   said_lines,
   set_line,
@@ -110,13 +111,16 @@ units_is s out named units words changed told old first mid new en ew ec et f m 
     ∙ ap (λ x. old ++ (char_line s at (words_of (lines units))
     ++ (left_lines s out ++ of_said s at (numbers_of (lines units)) units x))) et)))
 
-pub report_is : (asked : Option CharacterSet) (s : CharacterSet) (why : Reason) (out : LeftOut)
-    (bytes units none set new : List ℕ) → why ≡ reason asked bytes → out ≡ left_out s bytes → units ≡ file_units s bytes
-    → none ≡ [] → set ≡ none ++ set_line s why → new ≡ set ++ of_units s out units → new ≡ report_text asked s bytes
-unfolding report_text
-report_is asked s why out bytes units none set new ew eo eu en f n =
+pub report_is : (s : CharacterSet) (why : Reason) (out : LeftOut) (bytes units none set new : List ℕ)
+    → out ≡ left_out s bytes → units ≡ file_units s bytes → none ≡ [] → set ≡ none ++ set_line s why
+    → new ≡ set ++ of_units s out units → new ≡ report_by why s bytes
+report_is s why out bytes units none set new eo eu en f n =
     two none (set_line s why) (of_units s out units) set new f n
     ∙ (ap (λ x. x ++ (set_line s why ++ of_units s out units)) en
-    ∙ (ap (λ x. set_line s x ++ of_units s out units) ew
-    ∙ (ap (λ x. set_line s (reason asked bytes) ++ of_units s x units) eo
-    ∙ ap (λ x. set_line s (reason asked bytes) ++ of_units s (left_out s bytes) x) eu)))
+    ∙ (ap (λ x. set_line s why ++ of_units s x units) eo
+    ∙ ap (λ x. set_line s why ++ of_units s (left_out s bytes) x) eu))
+
+pub report_for : (asked : Option CharacterSet) (s : CharacterSet) (why : Reason) (bytes new : List ℕ)
+    → why ≡ reason asked bytes → new ≡ report_by why s bytes → new ≡ report_text asked s bytes
+unfolding report_text
+report_for asked s why bytes new e n = n ∙ ap (λ w. report_by w s bytes) e

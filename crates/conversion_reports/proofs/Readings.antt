@@ -30,7 +30,7 @@ use Rattle.file_conversion.specs.Conversion.{next_number}
 use Rattle.character_sets.specs.Lines.{Line, lines}
 use Rattle.character_sets.specs.Moves.{left_over, moved}
 use Rattle.std.specs.List.{filter, flat_map}
-use Rattle.character_sets.proofs.FirstLines.{empty, none}
+use Rattle.character_sets.proofs.FirstLines.{none}
 use Rattle.conversion_reports.specs.Lines.{LineRead, first_body, has_others, joins_at, lines_read, shown_number}
 use Rattle.conversion_reports.specs.Report.{left_if, read_line, read_lines, read_text, text_if}
 

@@ -1,5 +1,5 @@
 -- A file of which no text was made.
-use Rattle.std.proofs.Common.{◌≡◌, ◌⊎◌, IfSome, List, None, Ok, Err, Option, Some, inr, refl, subst, sym, ℕ}
+use Rattle.std.proofs.Common.{◌≡◌, IfSome, List, None, Err, Option, Some, inr, refl, subst, sym, ℕ}
 use Rattle.std.specs.Io.KnownBytes.{Keeps}
 use Rattle.character_sets.specs.declared.set.CharacterSet.{CharacterSet}
 use Rattle.file_conversion.specs.declared.fault.ConversionError.{ConversionError}

@@ -1,19 +1,5 @@
 -- What is said of a file whose set is not known: rules of our own.
-use Rattle.std.specs.Prelude.{
-  ℕ,
-  ◌-◌,
-  List,
-  [],
-  ◌∷◌,
-  ◌++◌,
-  Option,
-  Some,
-  None,
-  codes,
-  drop,
-  encode_utf8_all,
-  if◌then◌else◌,
-}
+use Rattle.std.specs.Prelude.{ℕ, ◌-◌, List, [], ◌∷◌, ◌++◌, Option, Some, None, codes, drop, if◌then◌else◌}
 use Rattle.std.specs.List.{list_all, prefix_len}
 use Rattle.character_sets.specs.declared.set.CharacterSet.{CharacterSet}
 use Rattle.character_sets.specs.declared.set.CharacterSet.TheVariants.{Utf8, CodePage437, CodePage850}

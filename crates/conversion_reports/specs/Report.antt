@@ -29,7 +29,7 @@ use Rattle.std.specs.List.{filter, flat_map}
 use Rattle.character_sets.specs.declared.set.CharacterSet.{CharacterSet}
 use Rattle.character_sets.specs.declared.set.CharacterSet.TheVariants as set
 use Rattle.character_sets.specs.Counts.{one_if}
-use Rattle.character_sets.specs.Lines.{Line, lines}
+use Rattle.character_sets.specs.Lines.{lines}
 use Rattle.file_conversion.specs.declared.charsets.NamedSet.{NamedSet}
 use Rattle.file_conversion.specs.declared.deciding.Reason.{Reason}
 use Rattle.file_conversion.specs.declared.deciding.Reason.TheVariants.{Mark, Nul, Asked, Ascii, Whole, Named}
@@ -202,6 +202,10 @@ abbrev pub of_units : CharacterSet → LeftOut → List ℕ → List ℕ
 of_units s out units = char_line s (named_by (lines units)) (words_of (lines units))
     ++ (left_lines s out ++ of_said s (named_by (lines units)) (numbers_of (lines units)) units (said (lines units)))
 
+-- the report of a file that was read in a set for a reason
+abbrev pub report_by : Reason → CharacterSet → List ℕ → List ℕ
+report_by why s bytes = set_line s why ++ of_units s (left_out s bytes) (file_units s bytes)
+
 -- the report of a file that was read in a set, where one may be asked for
 unfoldable pub report_text : Option CharacterSet → CharacterSet → List ℕ → List ℕ
-report_text asked s bytes = set_line s (reason asked bytes) ++ of_units s (left_out s bytes) (file_units s bytes)
+report_text asked s bytes = report_by (reason asked bytes) s bytes

@@ -6,7 +6,7 @@ use Rattle.character_sets.specs.declared.set.CharacterSet.{CharacterSet}
 use Rattle.file_conversion.specs.declared.fault.ConversionError.{ConversionError}
 use Rattle.file_conversion.specs.declared.fault.ConversionError.TheVariants.{OutOfMemory}
 use Rattle.file_conversion.specs.Conversion.{set_of_file, text_of_file}
-use Rattle.file_conversion.specs.Streams.{Begun, HasText, NoFileText, NotConverted, NotWritten, max_written}
+use Rattle.file_conversion.specs.Streams.{Begun, HasText, NotConverted, NotWritten, max_written}
 use Rattle.conversion_reports.specs.Report.{report_text}
 
 -- a text is written, or a beginning where the writer has failed in this call

@@ -19,7 +19,7 @@ use crate::hints::hint;
 use crate::report::report;
 use character_sets::CharacterSet;
 use devices::{Device, TransferError, write_flushed};
-use file_conversion::{ConversionError, read_file, text_of_file, write_text};
+use file_conversion::{ConversionError, read_file, set_and_reason, text_of_units, write_text};
 use std::alloc::Global;
 use std::io::{Read, Write};
 
@@ -70,13 +70,14 @@ fn make(alloc: Global, asked: Option<CharacterSet>, bytes: &[u8]) -> Result<Made
     ensures made { IfOk result (λ m. IsMade asked bytes.now m.set (string_bytes m.text) m.report.items) }
     ensures error { IfErr result (NoFileText asked bytes.now) }
 {
-    let (set, text) = match text_of_file(alloc, asked, bytes) {
-        Ok(made) => made,
-        Err(error) => return Err(error),
+    let (set, why) = match set_and_reason(alloc, asked, bytes)? {
+        Ok(found) => found,
+        Err(line) => return Err(ConversionError::UnknownSet(line)),
     };
-    match report(alloc, asked, set, bytes) {
-        Ok(report) => Ok(Made { set, text, report }),
-        Err(_) => Err(ConversionError::OutOfMemory),
+    let (report, told) = report(alloc, set, why, bytes)?;
+    match text_of_units(alloc, set, &told) {
+        Ok(text) => Ok(Made { set, text, report }),
+        Err(error) => Err(error),
     }
 }
 

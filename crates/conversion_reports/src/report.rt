@@ -1,6 +1,9 @@
 //! The report of a file that was converted.
 
 ghost use Rattle.std.specs.Prelude.{◌≡◌, ◌++◌, IfOk, OnOk, take};
+ghost use Rattle.character_sets.specs.Lines.{lines};
+ghost use Rattle.file_conversion.specs.Charsets.{said as said_of};
+ghost use Rattle.file_conversion.specs.Conversion.{file_units as file_units_of};
 ghost use Rattle.conversion_reports.specs.Report.{
   char_line,
   is_added as is_added_of,
@@ -10,7 +13,7 @@ ghost use Rattle.conversion_reports.specs.Report.{
   of_said,
   of_units,
   reason_text as reason_text_of,
-  report_text,
+  report_by,
   said_lines,
   set_line,
   set_name as set_name_of,
@@ -22,30 +25,28 @@ use crate::pushes::{push, push_count, push_line_end, push_shown};
 use crate::written::push_written;
 use character_sets::CharacterSet;
 use file_conversion::{
-    LeftOut, NamedSet, Reason, char_lines, file_units, left_out, named_by, reason_of_set, said,
-    set_number,
+    LeftOut, NamedSet, Reason, char_lines, file_units_and_left_out, named_by, said, set_number,
 };
 use std::alloc::{AllocError, Global};
 
 /// How many lines are named.
 const MAX_LINES: usize = 5;
 
-/// The report of a file that was read in a set, where one may be asked for.
-#[tactic(auto, unfolding(crate::specs::Report::report_text))]
+/// The report of a file that was read in a set, and the units of the file whose first HEAD says UTF-8.
 pub(crate) fn report(
     alloc: Global,
-    asked: Option<CharacterSet>,
     set: CharacterSet,
+    why: Reason,
     bytes: &[u8],
-) -> Result<Vec<u8>, AllocError>
-    ensures { IfOk result (λ text. text.items ≡ report_text asked set bytes.now) }
+) -> Result<(Vec<u8>, Vec<u16>), AllocError>
+    ensures report { IfOk result (λ made. made.0.items ≡ report_by why set bytes.now) }
+    ensures told { IfOk result (λ made. made.1.items ≡ said_of (lines (file_units_of set bytes.now))) }
 {
     let mut out = Vec::new(alloc);
-    push_set(&mut out, set, reason_of_set(alloc, asked, bytes)?)?;
-    let left = left_out(alloc, set, bytes)?;
-    let units = file_units(alloc, set, bytes)?;
-    push_units(alloc, &mut out, set, left, &units)?;
-    Ok(out)
+    push_set(&mut out, set, why)?;
+    let (units, left) = file_units_and_left_out(alloc, set, bytes)?;
+    let told = push_units(alloc, &mut out, set, left, &units)?;
+    Ok((out, told))
 }
 
 /// Adds the set, and what said so.
@@ -87,15 +88,16 @@ fn reason_text(why: Reason) -> &'static str
     }
 }
 
-/// Adds what is reported of a file of these units.
+/// Adds what is reported of a file of these units: those of the file whose first HEAD says UTF-8.
 fn push_units(
     alloc: Global,
     out: &mut Vec<u8>,
     set: CharacterSet,
     left: LeftOut,
     units: &[u16],
-) -> Result<(), AllocError>
-    ensures { OnOk result (out.new.items ≡ out.old.items ++ of_units set left units.now) }
+) -> Result<Vec<u16>, AllocError>
+    ensures report { OnOk result (out.new.items ≡ out.old.items ++ of_units set left units.now) }
+    ensures told { IfOk result (λ told. told.items ≡ said_of (lines units.now)) }
 {
     let named = named_by(alloc, units)?;
     let chars = char_lines(alloc, units)?;
@@ -103,7 +105,7 @@ fn push_units(
     push_left(alloc, out, set, left)?;
     let told = said(alloc, units, named)?;
     push_said(alloc, out, set, named, &chars.changed, units, &told)?;
-    Ok(())
+    Ok(told)
 }
 
 /// Adds what the lines CHAR say, where it is another set than this.

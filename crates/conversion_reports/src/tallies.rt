@@ -14,7 +14,8 @@ ghost use Rattle.conversion_reports.specs.declared.kinds.Kind.TheVariants.{Other
 
 use crate::kinds::{Counts, counts_in};
 use crate::reading::{Next, next_line};
-use character_sets::CharacterSet;
+use character_sets::{CharacterSet, first_line};
+use file_conversion::{is_plain, next_number};
 use std::alloc::{AllocError, Global};
 
 /// What was counted of a kind in lines.
@@ -125,7 +126,44 @@ pub(crate) fn tallies_of(
 }
 
 /// Adds the first line of units: the number of the next one, the units in front of its value, and the units from it on.
+/// A line of ASCII alone has nothing to count.
 fn add_next<'a>(
+    alloc: Global,
+    all: &mut Tallies,
+    set: CharacterSet,
+    number: usize,
+    carry: Vec<u16>,
+    units: &'a [u16],
+) -> Result<(usize, Vec<u16>, &'a [u16]), AllocError>
+    requires some { 0 < length units.now }
+    requires room { number < 0xFFFF_FFFF_FFFF_FFFF }
+    ensures other { IfOk result (λ next. Goes Other set all.old.other.count all.old.other.first.items
+        (lines_read set number carry.items (lines units.now)) all.new.other.count
+        all.new.other.first.items (lines_read set next.0 next.1.items (lines next.2.now))) }
+    ensures joined { IfOk result (λ next. Goes Joined set all.old.joined.count all.old.joined.first.items
+        (lines_read set number carry.items (lines units.now)) all.new.joined.count
+        all.new.joined.first.items (lines_read set next.0 next.1.items (lines next.2.now))) }
+    ensures stray { IfOk result (λ next. Goes Stray set all.old.stray.count all.old.stray.first.items
+        (lines_read set number carry.items (lines units.now)) all.new.stray.count
+        all.new.stray.first.items (lines_read set next.0 next.1.items (lines next.2.now))) }
+    ensures replaced { IfOk result (λ next. Goes Replaced set all.old.replaced.count
+        all.old.replaced.first.items (lines_read set number carry.items (lines units.now))
+        all.new.replaced.count all.new.replaced.first.items (lines_read set next.0 next.1.items (lines next.2.now))) }
+    ensures marked { IfOk result (λ next. Goes Marked set all.old.marked.count all.old.marked.first.items
+        (lines_read set number carry.items (lines units.now)) all.new.marked.count
+        all.new.marked.first.items (lines_read set next.0 next.1.items (lines next.2.now))) }
+    ensures number { IfOk result (λ next. next.0 ≤ number + 1) }
+    ensures shorter { IfOk result (λ next. length next.2.now < length units.now) }
+{
+    let cut = first_line(units);
+    if is_plain(&carry, cut.body) {
+        return Ok((next_number(number, cut.body), carry, cut.rest));
+    }
+    add_moved(alloc, all, set, number, carry, units)
+}
+
+/// Adds the first line of units as `add_next` does, whatever it has.
+fn add_moved<'a>(
     alloc: Global,
     all: &mut Tallies,
     set: CharacterSet,

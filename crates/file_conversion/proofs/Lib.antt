@@ -1,2 +1,4 @@
 pub mod Beyond
 pub mod Written
+pub mod Plain
+pub mod Marks

@@ -24,6 +24,7 @@ use Rattle.std.proofs.Common.{
   sym,
   take,
   take_all,
+  true,
   ℕ,
 }
 use Rattle.std.specs.List.{flat_map}
@@ -41,7 +42,9 @@ use Rattle.file_conversion.specs.declared.fault.ConversionError.TheVariants.{
 use Rattle.character_sets.specs.Lines.{Line}
 use Rattle.character_sets.specs.Moves.{moved}
 use Rattle.file_conversion.specs.Conversion.{line_characters, text_of_lines}
+use Rattle.file_conversion.specs.PlainLines.{is_plain}
 use Rattle.file_conversion.specs.Streams.{NoText}
+use Rattle.file_conversion.proofs.Plain.{plain_moves}
 
 pub two_parts : (old a b t u : List ℕ) → t ≡ old ++ encode_utf8_all a → u ≡ t ++ encode_utf8_all b
     → u ≡ old ++ encode_utf8_all (a ++ b)
@@ -82,6 +85,23 @@ no_next set carry next ls ms body shown ending old e m s h =
     let line = encode_utf8_all (characters set shown ++ characters set ending) in
     subst (λ t. NoText t e) (next_text set carry next ls ms body shown ending old (old ++ line) m s refl)
     (more_text (old ++ line) (text_of_lines set next ms) e h)
+
+-- the same of a line that stays as it is
+pub plain_next : (set : CharacterSet) (carry shown : List ℕ) (ls ms : List Line) (body ending old new : List ℕ)
+    → shown ≡ carry → is_plain shown body ≡ true → ls ≡ record { body = body; ending = ending } ∷ ms
+    → new ≡ old ++ encode_utf8_all (characters set body ++ characters set ending)
+    → new ++ text_of_lines set carry ms ≡ old ++ text_of_lines set carry ls
+plain_next set carry shown ls ms body ending old new s p e n =
+    next_text set carry carry ls ms body body ending old new
+    (plain_moves set carry body ending ls ms (subst (λ us. is_plain us body ≡ true) s p) e) refl n
+
+pub plain_no_next : (set : CharacterSet) (carry shown : List ℕ) (ls ms : List Line) (body ending old : List ℕ)
+    (e : ConversionError) → shown ≡ carry → is_plain shown body ≡ true
+    → ls ≡ record { body = body; ending = ending } ∷ ms
+    → NoText (old ++ encode_utf8_all (characters set body ++ characters set ending)) e
+    → NoText (old ++ text_of_lines set carry ls) e
+plain_no_next set carry shown ls ms body ending old e s p l h = no_next set carry carry ls ms body body ending old e
+    (plain_moves set carry body ending ls ms (subst (λ us. is_plain us body ≡ true) s p) l) refl h
 
 -- fewer bytes than a limit are all
 all_read : (n : ℕ) (known all : List ℕ) → all ≡ take n known → length all < n → known ≡ all

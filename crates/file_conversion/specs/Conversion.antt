@@ -1,5 +1,6 @@
 -- The set of a file, and the file in UTF-8.
 use Rattle.std.specs.Prelude.{
+  ◌≡◌,
   ℕ,
   ◌+◌,
   ◌-◌,
@@ -16,6 +17,7 @@ use Rattle.std.specs.Prelude.{
   Option,
   Some,
   None,
+  MatchResult,
   Result,
   Ok,
   Err,
@@ -153,9 +155,12 @@ abbrev pub wide_reason : List ℕ → Reason
 wide_reason (a ∷ b ∷ more) = if (a == 0xFF && b == 0xFE) || (a == 0xFE && b == 0xFF) then Mark else Nul
 wide_reason _ = Nul
 
+abbrev pub reason_of_units : List ℕ → Reason
+reason_of_units units = if is_utf8 units then Whole else Named
+
 abbrev pub reason_in : List ℕ → Reason
 reason_in bytes = if list_all is_ascii bytes then Ascii else if has_utf8_mark bytes then Mark
-    else if is_utf8 (file_units Utf8 bytes) then Whole else Named
+    else reason_of_units (file_units Utf8 bytes)
 
 -- what says the set of a file, where one may be asked for and its set is known
 abbrev pub reason : Option CharacterSet → List ℕ → Reason
@@ -164,6 +169,10 @@ reason asked bytes =
       | Some set ↦ wide_reason bytes
       | None ↦ elim asked [ Some set ↦ Asked | None ↦ reason_in bytes ]
     ]
+
+-- the set of a file and what says it, or the number of the line that leaves it open
+abbrev pub IsDecided : Result CharacterSet ℕ → Reason → Result (CharacterSet × Reason) ℕ → Type 0
+IsDecided set why found = MatchResult found (λ f. (set ≡ Ok f.0) × (f.1 ≡ why)) (λ n. set ≡ Err n)
 
 -- ---- the text
 abbrev pub line_characters : CharacterSet → Line → List ℕ

@@ -19,7 +19,9 @@ ghost use Rattle.std.specs.Io.KnownBytes.{Appends, Keeps};
 ghost use Rattle.devices.specs.Devices.{AppendsBeginning, Rose};
 ghost use Rattle.character_sets.specs.Sets.{characters};
 ghost use Rattle.character_sets.specs.Lines.{lines};
+ghost use Rattle.file_conversion.specs.Charsets.{said as said_of};
 ghost use Rattle.file_conversion.specs.Conversion.{
+  file_units as file_units_of,
   text_of_file as text_of_file_of,
   text_of_lines,
   text_of_units as text_of_units_of,
@@ -35,11 +37,12 @@ ghost use Rattle.file_conversion.specs.Streams.{
   NotWritten,
 };
 
+use crate::ascii::{is_plain, push_units};
 use crate::deciding::set_of_file;
 use crate::fault::ConversionError;
 use crate::naming::{named_by, said};
 use crate::units::file_units;
-use character_sets::{CharacterSet, Moved, moved_line, push_text};
+use character_sets::{CharacterSet, Moved, first_line, moved_line, push_text};
 use devices::{Device, TransferError, read_up_to, write_flushed};
 use std::alloc::{AllocError, Global};
 use std::io::{Read, Write};
@@ -51,7 +54,11 @@ const MAX_READ: usize = 134_217_728;
 const MAX_WRITTEN: usize = 67_108_864;
 
 /// The text of units in a set, line by line. `TooLarge`: it would have more than 67,108,864 bytes.
-fn text_of_units(alloc: Global, set: CharacterSet, units: &[u16]) -> Result<String, ConversionError>
+pub fn text_of_units(
+    alloc: Global,
+    set: CharacterSet,
+    units: &[u16],
+) -> Result<String, ConversionError>
     ensures text { IfOk result (λ t. string_bytes t ≡ text_of_units_of set units.now) }
     ensures small { IfOk result (λ t. length (string_bytes t) ≤ 67_108_864) }
     ensures error { IfErr result (NoText (text_of_units_of set units.now)) }
@@ -72,8 +79,33 @@ fn text_of_units(alloc: Global, set: CharacterSet, units: &[u16]) -> Result<Stri
 }
 
 /// Adds the first line of units, whose value has `carry` in front: what is in front of the next one's, and the units
-/// after it. `TooLarge`: the text has too many bytes with it.
+/// after it. `TooLarge`: the text has too many bytes with it. A line of ASCII alone is not copied before.
 fn push_next<'a>(
+    alloc: Global,
+    text: &mut String,
+    set: CharacterSet,
+    carry: Vec<u16>,
+    units: &'a [u16],
+) -> Result<(Vec<u16>, &'a [u16]), ConversionError>
+    requires { 0 < length units.now }
+    ensures text { IfOk result (λ next. string_bytes text.new ++ text_of_lines set next.0.items (lines next.1.now)
+        ≡ string_bytes text.old ++ text_of_lines set carry.items (lines units.now)) }
+    ensures small { OnOk result (length (string_bytes text.new) ≤ 67_108_864) }
+    ensures shorter { IfOk result (λ next. length next.1.now < length units.now) }
+    ensures error { IfErr result (NoText (string_bytes text.old ++ text_of_lines set carry.items (lines units.now))) }
+{
+    let cut = first_line(units);
+    if !is_plain(&carry, cut.body) {
+        return push_moved(alloc, text, set, carry, units);
+    }
+    match push_line(alloc, text, set, cut.body, cut.ending) {
+        Ok(()) => Ok((carry, cut.rest)),
+        Err(error) => Err(error),
+    }
+}
+
+/// Adds the first line of units as `push_next` does, whatever it has.
+fn push_moved<'a>(
     alloc: Global,
     text: &mut String,
     set: CharacterSet,
@@ -131,7 +163,7 @@ fn push_both(
     ensures { OnOk result (string_bytes text.new
         ≡ string_bytes text.old ++ encode_utf8_all (characters set body.now ++ characters set ending.now)) }
 {
-    push_text(alloc, text, set, body)?;
+    push_units(alloc, text, set, body)?;
     push_text(alloc, text, set, ending)?;
     Ok(())
 }
@@ -161,10 +193,17 @@ fn text_in(alloc: Global, set: CharacterSet, bytes: &[u8]) -> Result<String, Con
     ensures small { IfOk result (λ t. length (string_bytes t) ≤ 67_108_864) }
     ensures error { IfErr result (NoText (text_of_file_of set bytes.now)) }
 {
+    let told = said_units(alloc, set, bytes)?;
+    text_of_units(alloc, set, &told)
+}
+
+/// The units of a file whose first HEAD says UTF-8.
+fn said_units(alloc: Global, set: CharacterSet, bytes: &[u8]) -> Result<Vec<u16>, AllocError>
+    ensures { IfOk result (λ told. told.items ≡ said_of (lines (file_units_of set bytes.now))) }
+{
     let units = file_units(alloc, set, bytes)?;
     let named = named_by(alloc, &units)?;
-    let told = said(alloc, &units, named)?;
-    text_of_units(alloc, set, &told)
+    said(alloc, &units, named)
 }
 
 /// All bytes of a file. `TooLarge`: it has more than 134,217,728.

@@ -4,6 +4,7 @@ ghost use Rattle.std.specs.Prelude.{◌≡◌, ◌<◌, IfOk};
 ghost use Rattle.std.specs.List.{list_all};
 ghost use Rattle.character_sets.specs.Lines.{lines};
 ghost use Rattle.file_conversion.specs.Conversion.{
+  IsDecided,
   by_bytes as by_bytes_of,
   by_lines as by_lines_of,
   by_name as by_name_of,
@@ -15,6 +16,7 @@ ghost use Rattle.file_conversion.specs.Conversion.{
   next_number as next_number_of,
   reason as reason_of,
   reason_in as reason_in_of,
+  reason_of_units as reason_of_units_of,
   set_of_file as set_of_file_of,
   wide_reason as wide_reason_of,
   wide_set as wide_set_of,
@@ -30,7 +32,6 @@ use std::alloc::{AllocError, Global};
 
 /// The set of a file, where one may be asked for. The inner error is the number of the line that leaves it open,
 /// counted from 1 without blank lines.
-#[tactic(auto, unfolding(crate::specs::Conversion::set_of_file))]
 pub fn set_of_file(
     alloc: Global,
     asked: Option<CharacterSet>,
@@ -38,10 +39,9 @@ pub fn set_of_file(
 ) -> Result<Result<CharacterSet, usize>, AllocError>
     ensures { IfOk result (λ found. found ≡ set_of_file_of asked bytes.now) }
 {
-    match (wide_set(bytes), asked) {
-        (Some(set), _) => Ok(Ok(set)),
-        (None, Some(set)) => Ok(Ok(set)),
-        (None, None) => by_bytes(alloc, bytes),
+    match set_and_reason(alloc, asked, bytes)? {
+        Ok((set, _)) => Ok(Ok(set)),
+        Err(line) => Ok(Err(line)),
     }
 }
 
@@ -62,18 +62,19 @@ pub enum Reason {
     Named,
 }
 
-/// What says the set of a file, where one may be asked for and its set is known.
-pub fn reason_of_set(
+/// The set of a file, where one may be asked for, and what says it. The inner error is that of `set_of_file`.
+#[tactic(auto, unfolding(crate::specs::Conversion::set_of_file))]
+pub fn set_and_reason(
     alloc: Global,
     asked: Option<CharacterSet>,
     bytes: &[u8],
-) -> Result<Reason, AllocError>
-    ensures { IfOk result (λ found. found ≡ reason_of asked bytes.now) }
+) -> Result<Result<(CharacterSet, Reason), usize>, AllocError>
+    ensures { IfOk result (λ found. IsDecided (set_of_file_of asked bytes.now) (reason_of asked bytes.now) found) }
 {
     match (wide_set(bytes), asked) {
-        (Some(_), _) => Ok(wide_reason(bytes)),
-        (None, Some(_)) => Ok(Reason::Asked),
-        (None, None) => reason_in(alloc, bytes),
+        (Some(set), _) => Ok(Ok((set, wide_reason(bytes)))),
+        (None, Some(set)) => Ok(Ok((set, Reason::Asked))),
+        (None, None) => by_bytes(alloc, bytes),
     }
 }
 
@@ -83,23 +84,6 @@ fn wide_reason(bytes: &[u8]) -> Reason
     match bytes {
         [0xFF, 0xFE, ..] | [0xFE, 0xFF, ..] => Reason::Mark,
         _ => Reason::Nul,
-    }
-}
-
-fn reason_in(alloc: Global, bytes: &[u8]) -> Result<Reason, AllocError>
-    ensures { IfOk result (λ found. found ≡ reason_in_of bytes.now) }
-{
-    if are_ascii(bytes) {
-        return Ok(Reason::Ascii);
-    }
-    if has_utf8_mark(bytes) {
-        return Ok(Reason::Mark);
-    }
-    let units = file_units(alloc, CharacterSet::Utf8, bytes)?;
-    if are_utf8(alloc, &units)? {
-        Ok(Reason::Whole)
-    } else {
-        Ok(Reason::Named)
     }
 }
 
@@ -119,11 +103,17 @@ fn wide_set(bytes: &[u8]) -> Option<CharacterSet>
     }
 }
 
-fn by_bytes(alloc: Global, bytes: &[u8]) -> Result<Result<CharacterSet, usize>, AllocError>
-    ensures { IfOk result (λ found. found ≡ by_bytes_of bytes.now) }
+fn by_bytes(
+    alloc: Global,
+    bytes: &[u8],
+) -> Result<Result<(CharacterSet, Reason), usize>, AllocError>
+    ensures { IfOk result (λ found. IsDecided (by_bytes_of bytes.now) (reason_in_of bytes.now) found) }
 {
-    if are_ascii(bytes) || has_utf8_mark(bytes) {
-        return Ok(Ok(CharacterSet::Utf8));
+    if are_ascii(bytes) {
+        return Ok(Ok((CharacterSet::Utf8, Reason::Ascii)));
+    }
+    if has_utf8_mark(bytes) {
+        return Ok(Ok((CharacterSet::Utf8, Reason::Mark)));
     }
     let units = file_units(alloc, CharacterSet::Utf8, bytes)?;
     by_lines(alloc, &units)
@@ -144,14 +134,20 @@ fn has_utf8_mark(bytes: &[u8]) -> bool
     }
 }
 
-fn by_lines(alloc: Global, units: &[u16]) -> Result<Result<CharacterSet, usize>, AllocError>
-    ensures { IfOk result (λ found. found ≡ by_lines_of units.now) }
+fn by_lines(
+    alloc: Global,
+    units: &[u16],
+) -> Result<Result<(CharacterSet, Reason), usize>, AllocError>
+    ensures { IfOk result (λ found. IsDecided (by_lines_of units.now) (reason_of_units_of units.now) found) }
 {
     if are_utf8(alloc, units)? {
-        return Ok(Ok(CharacterSet::Utf8));
+        return Ok(Ok((CharacterSet::Utf8, Reason::Whole)));
     }
     let named = named_by(alloc, units)?;
-    Ok(by_name(named, units))
+    match by_name(named, units) {
+        Ok(set) => Ok(Ok((set, Reason::Named))),
+        Err(line) => Ok(Err(line)),
+    }
 }
 
 /// Whether each byte belongs to a character of UTF-8.

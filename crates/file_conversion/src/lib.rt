@@ -7,6 +7,7 @@
 //! where there is none, and what a CONC was cut in.
 #![tactic(auto)]
 
+mod ascii;
 mod char_values;
 mod charsets;
 mod converting;
@@ -15,10 +16,11 @@ mod fault;
 mod naming;
 mod units;
 
+pub use ascii::is_plain;
 pub use char_values::{CharLines, char_lines};
 pub use charsets::{NamedSet, set_number};
-pub use converting::{convert, read_file, text_of_file, write_text};
-pub use deciding::{Reason, next_number, reason_of_set, set_of_file};
+pub use converting::{convert, read_file, text_of_file, text_of_units, write_text};
+pub use deciding::{Reason, next_number, set_and_reason, set_of_file};
 pub use fault::ConversionError;
 pub use naming::{named_by, said};
-pub use units::{LeftOut, file_units, left_out};
+pub use units::{LeftOut, file_units, file_units_and_left_out};

@@ -17,12 +17,11 @@ use character_sets::{CharacterSet, units_of};
 use std::alloc::{AllocError, Global};
 
 /// The units of a file in a set, without marks at the beginning, and without U+0000 and Ctrl-Z at the end.
-#[tactic(auto, unfolding(crate::specs::Conversion::file_units))]
 pub fn file_units(alloc: Global, set: CharacterSet, bytes: &[u8]) -> Result<Vec<u16>, AllocError>
     ensures { IfOk result (λ units. units.items ≡ file_units_of set bytes.now) }
 {
-    let units = units_of(alloc, set, bytes)?;
-    without_filling(alloc, past_marks(set, &units))
+    let (units, _) = file_units_and_left_out(alloc, set, bytes)?;
+    Ok(units)
 }
 
 /// What of a file is no part of its lines, in units of its set.
@@ -34,17 +33,37 @@ pub struct LeftOut {
     pub filling: usize,
 }
 
-/// How many units of a file are left out, by where they stand.
-pub fn left_out(alloc: Global, set: CharacterSet, bytes: &[u8]) -> Result<LeftOut, AllocError>
-    ensures { IfOk result (λ found. found ≡ left_out_of set bytes.now) }
+/// The units of a file, and how many are left out, by where they stand.
+#[tactic(auto, unfolding(crate::specs::Conversion::file_units))]
+pub fn file_units_and_left_out(
+    alloc: Global,
+    set: CharacterSet,
+    bytes: &[u8],
+) -> Result<(Vec<u16>, LeftOut), AllocError>
+    ensures units { IfOk result (λ made. made.0.items ≡ file_units_of set bytes.now) }
+    ensures left_out { IfOk result (λ made. made.1 ≡ left_out_of set bytes.now) }
 {
     let all = units_of(alloc, set, bytes)?;
-    let rest = past_marks(set, &all);
-    let kept = without_filling(alloc, rest)?;
-    Ok(LeftOut {
-        marks: all.len().saturating_sub(rest.len()),
-        filling: rest.len().saturating_sub(kept.len()),
-    })
+    let total = all.len();
+    let rest = without_marks(alloc, set, all)?;
+    let after = rest.len();
+    let units = without_filling(alloc, rest)?;
+    let left = LeftOut {
+        marks: total.saturating_sub(after),
+        filling: after.saturating_sub(units.len()),
+    };
+    Ok((units, left))
+}
+
+/// Units without the marks at the beginning. They are copied only where there is one.
+fn without_marks(alloc: Global, set: CharacterSet, units: Vec<u16>) -> Result<Vec<u16>, AllocError>
+    ensures { IfOk result (λ rest. rest.items ≡ past_marks_of set units.items) }
+{
+    let rest = past_marks(set, &units);
+    if rest.len() == units.len() {
+        return Ok(units);
+    }
+    rest.to_vec(alloc)
 }
 
 fn past_marks(set: CharacterSet, units: &[u16]) -> &[u16]
@@ -76,13 +95,16 @@ fn past_wide_marks(units: &[u16]) -> &[u16]
     rest
 }
 
-fn without_filling(alloc: Global, units: &[u16]) -> Result<Vec<u16>, AllocError>
-    ensures { IfOk result (λ all. all.items ≡ without_filling_of units.now) }
+/// Units without U+0000 and Ctrl-Z at the end. Only what is there is copied.
+fn without_filling(alloc: Global, units: Vec<u16>) -> Result<Vec<u16>, AllocError>
+    ensures { IfOk result (λ all. all.items ≡ without_filling_of units.items) }
 {
-    let at = units.len() - len_at_end(units);
-    let mut all = Vec::with_capacity(alloc, units.len())?;
-    all.extend_from_slice(&units[..at])?;
-    push_kept(&mut all, &units[at..])?;
+    let mut all = units;
+    let at = all.len() - len_at_end(&all);
+    let mut end = Vec::new(alloc);
+    push_kept(&mut end, &all[at..])?;
+    all.truncate(at);
+    all.extend_from_slice(&end)?;
     Ok(all)
 }
 
