@@ -20,6 +20,8 @@ ORDER = re.compile(r"const COMMANDS: \[CommandRow; \d+\] = \[([^\]]*)\];")
 ROW = re.compile(
     r'const (\w+): CommandRow = CommandRow \{\n    name: "(\w+)",\n    about: (\w+),.*?words: &\[([^\]]*)\],', re.DOTALL
 )
+# The words that are the name of a file.
+FILES = ("FILE", "report")
 # The words that have one of a few values, by command: the file and the name of the constant that lists them.
 LISTED = {
     ("sheet", "KIND"): ("showing.rt", "KINDS"),
@@ -49,7 +51,7 @@ class Given:
 
     @property
     def is_file(self):
-        return self.id == "FILE"
+        return self.id in FILES
 
 
 @dataclass(frozen=True)
@@ -140,7 +142,8 @@ def bash_options(command):
     """A case for the value of each option, and then one for the options themselves."""
     for option in command.options:
         if option.value:
-            yield f"            {command.name}:--{option.id}) offered='{' '.join(option.values)}' files= ;;\n"
+            files = "1" if option.is_file else ""
+            yield f"            {command.name}:--{option.id}) offered='{' '.join(option.values)}' files={files} ;;\n"
     names = " ".join([*(f"--{it.id}" for it in command.options), "--help"])
     yield f"            {command.name}:*) [[ $word != -* ]] || offered='{names}' files= ;;\n"
 

@@ -35,6 +35,7 @@ import faults  # noqa: E402
 import files  # noqa: E402
 import gate_edits  # noqa: E402
 import histories  # noqa: E402
+import import_reports  # noqa: E402
 import imports  # noqa: E402
 import kept_gate  # noqa: E402
 import layout  # noqa: E402
@@ -81,6 +82,7 @@ PARTS = (
     references,
     past_values,
     histories,
+    import_reports,
     imports,
     kept_gate,
     leaks,

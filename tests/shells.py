@@ -29,6 +29,7 @@ OFFERED = (
     (("export", "town.db", "--p"), {"--public", "--plain"}),
     (("audit", "to"), {"town.db", "town.csv"}),
     (("export", "town.db", "--today", ""), set()),
+    (("import", "town.db", "--report", "to"), {"town.db", "town.csv"}),
 )
 ASK = """
 source "$1"; shift

@@ -342,6 +342,16 @@ STREAMS = (
         refuses_words(b"'--progress", "import", "a.db", "--token", "t", "--progress=1"),
     ),
     ("export with --progress", refuses_words(b"'--progress'", "export", "a.db", "--progress")),
+    ("import --help tells --report", told(b"\n      --report <REPORT>  ", "import", "--help")),
+    (
+        "import with --report of nothing",
+        refuses_words(b"--report <REPORT>", "import", "a.db", "--token", "t", "--report"),
+    ),
+    (
+        "import with two reports",
+        refuses_words(b"--report <REPORT>", "import", "a.db", "--token", "t", "--report", "a", "--report", "b"),
+    ),
+    ("export with --report", refuses_words(b"'--report'", "export", "a.db", "--report", "a")),
     ("import without a file", refuses_words(b"<FILE>", "import", "--token", "t")),
     ("import without a token", refuses_words(b"--token <T>", "import", "a.db")),
     ("import of two files", refuses_words(b"'b.ged'", "import", "a.db", "b.ged", "--token", "t")),

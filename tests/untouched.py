@@ -17,7 +17,7 @@ from harness import Case, Outcome, Tools, demand, expect, refused, run, shown
 from table.making import between
 
 TODAY = ("--today", "2024-01-01")
-# Right command lines, on an archive with a person who is living. `--generations` and `--words` may be left out.
+# Right command lines, on an archive with a person who is living. Those of OPTIONAL may be left out.
 RIGHT = (
     ("init", "FILE", "--society", "Ashby"),
     ("apply", "FILE"),
@@ -25,6 +25,7 @@ RIGHT = (
     ("entries", "FILE", "--source", "1", "--token", "t"),
     ("import", "FILE", "--token", "t"),
     ("import", "FILE", "--progress", "--token", "t"),
+    ("import", "FILE", "--report", "REPORT", "--token", "t"),
     ("export", "FILE"),
     ("export", "FILE", "--public", *TODAY),
     ("export", "FILE", "--plain"),
@@ -39,7 +40,7 @@ RIGHT = (
     ("check",),
 )
 FLAGS = ("--plain", "--progress", "--public", "--stop", "--words")
-OPTIONAL = ("--plain", "--progress", "--stop", "--words", "--generations")
+OPTIONAL = ("--plain", "--progress", "--report", "--stop", "--words", "--generations")
 # Further wrong lines, by hand.
 WRONG = (
     (),

@@ -35,10 +35,10 @@ module _ {S : Type 0} (g : Ghosts S) (token : List ℕ) (input : Option (List �
   all_imported (Ok done) h = (imported (Ok done.0) h.0, h.1)
   all_imported (Err e) h = tt
 
-  pub none_imported : (P : Refusal → Type 0) (r : Result (Answer × List ReportLine) Refusal)
+  pub none_imported : (r : Result (Answer × List ReportLine) Refusal)
       → IfErr r (λ e. Steps g (Ok (import_of token forest, Err e)) old new
       ⊎ ((answer : Answer) × Steps g (Ok (import_of token forest, Ok answer)) old new × IsUnreported forest e))
-      → IfErr r (λ e. Imports g token input old (Err e) new ⊎ (ImportsSilently g token input old e new ⊎ P e))
-  none_imported P (Ok done) h = tt
-  none_imported P (Err e) (inl did) = inl (imported (Err e) did)
-  none_imported P (Err e) (inr (answer, did, why)) = inr (inl (answer, imported (Ok answer) did, why))
+      → IfErr r (λ e. Imports g token input old (Err e) new ⊎ ImportsSilently g token input old e new)
+  none_imported (Ok done) h = tt
+  none_imported (Err e) (inl did) = inl (imported (Err e) did)
+  none_imported (Err e) (inr (answer, did, why)) = inr (answer, imported (Ok answer) did, why)

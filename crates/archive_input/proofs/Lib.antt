@@ -7,7 +7,7 @@ mod Outcomes
 pub mod Refusals
 pub mod Refused
 mod Served
-mod Stepped
+pub mod Stepped
 mod Stopped
 mod Imported
 pub mod Told

@@ -23,6 +23,7 @@ use Rattle.std.proofs.lemmas.Bool.{false≢true}
 use Rattle.sqlite.specs.Held.{state}
 use Rattle.sqlite.specs.State.{HasCleanDisk, State}
 use Rattle.sqlite_trees.specs.declared.store.Store.{Ghosts}
+use Rattle.archive_core.specs.Machine.{Done}
 use Rattle.archive_core.specs.Steps.{refused_at}
 use Rattle.archive_core.specs.declared.request.Request.{Request}
 use Rattle.archive_state.specs.Content.{Content}
@@ -150,6 +151,20 @@ module _ {S : Type 0} (g : Ghosts S) where
   clean_of mid new (Ok done) free steps clean = (steps.0 clean free).clean
   clean_of mid new (Err bad) free same clean = subst (λ (a : Archive S g). HasCleanDisk (state g a.conn)) same clean
 
+  module _ (old mid : Archive S g) (was : is_shut old ≡ false)
+      (looks : HasCleanDisk (state g mid.conn) → StaysReadable (state g old.conn) mid.is_lost (state g mid.conn)) where
+    -- a request that is performed after looks that did not fail
+    pub steps_then : (new : Archive S g) (done : Done) → mid.is_lost ≡ false → is_shut mid ≡ false
+        → Steps g (Ok done) mid new → Steps g (Ok done) old new
+    steps_then new done sure free steps = (
+      λ clean _.
+          let p = steps.0 clean free in
+          performs_then (state g old.conn) (state g mid.conn) (state g new.conn) [] (done ∷ [])
+          (performs_looked (state g old.conn) (state g mid.conn) mid.is_lost (looks p.clean) sure) refl p,
+      λ _. steps.1 free,
+      λ shut. absurd (false≢true (sym was ∙ shut)),
+    )
+
   module _ (row : Row) (old mid : Archive S g) (refers : has_references row ≡ true) (was : is_shut old ≡ false)
       (looks : HasCleanDisk (state g mid.conn) → StaysReadable (state g old.conn) mid.is_lost (state g mid.conn)) where
     -- looks that did not fail
@@ -169,14 +184,7 @@ module _ {S : Type 0} (g : Ghosts S) where
     -- what is done after them
     pub steps_looked : (new : Archive S g) (s : Served) → mid.is_lost ≡ false → is_shut mid ≡ false
         → Steps g s mid new → StepsRow g row s old new
-    steps_looked new (Ok done) sure free steps = (
-      λ clean _.
-          let p = steps.0 clean free in
-          performs_then (state g old.conn) (state g mid.conn) (state g new.conn) [] (done ∷ [])
-          (performs_looked (state g old.conn) (state g mid.conn) mid.is_lost (looks p.clean) sure) refl p,
-      λ _. steps.1 free,
-      λ shut. absurd (false≢true (sym was ∙ shut)),
-    )
+    steps_looked new (Ok done) sure free steps = steps_then old mid was looks new done sure free steps
     steps_looked new (Err bad) sure free same =
         inr (subst (λ (a : Archive S g). OnlyLooks g row old a) (sym same) (only_looks sure free))
 

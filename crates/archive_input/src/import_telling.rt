@@ -25,8 +25,8 @@ fn count_line(alloc: Global, answer: Answer) -> Result<String, AllocError>
     format!(in alloc; "imported {count} records, first {first}\n")
 }
 
-/// Appends a line for each line of a report.
-fn push_lines(alloc: Global, text: &mut String, lines: &[ReportLine]) -> Result<(), AllocError>
+/// Appends a line for each line of a report. Refused only if out of memory.
+pub fn push_lines(alloc: Global, text: &mut String, lines: &[ReportLine]) -> Result<(), AllocError>
     ensures { OnOk result (string_bytes text.new ≡ string_bytes text.old ++ flat_map telling.line_text lines.now) }
 {
     for line in lines {

@@ -1,6 +1,6 @@
-//! A file read from an input, and imported into an archive by one request.
+//! A file read from an input, and its import into an archive by one request.
 
-ghost use Rattle.std.specs.Prelude.{◌≡◌, ◌⊎◌, Err, IfErr, IfOk, Ok, OnOk};
+ghost use Rattle.std.specs.Prelude.{◌≡◌, ◌⊎◌, ℕ, Err, IfErr, IfOk, List, Ok, OnOk, Option};
 ghost use Rattle.sqlite.specs.Held.{state};
 ghost use Rattle.sqlite.specs.State.{HasCleanDisk};
 ghost use Rattle.devices.specs.Devices.{Rose};
@@ -9,7 +9,14 @@ ghost use Rattle.import_definitions.specs.Report.{report as report_said};
 ghost use Rattle.archive_input.specs.Applying.{Steps};
 ghost use Rattle.store.specs.Calls.{OnArchive};
 ghost use Rattle.store.specs.Telling.{TellsDone, TellsImport};
-ghost use Rattle.archive_input.specs.Importing.{ImportsAll, IsUntold, TellsImported};
+ghost use Rattle.archive_input.specs.Importing.{
+  Imports,
+  ImportsAll,
+  ImportsSilently,
+  IsFileOf,
+  IsNoFile,
+  TellsImported,
+};
 ghost use Rattle.imports.specs.Results.{IsUnreported};
 ghost use Rattle.archive_core.specs.Machine.{import_of};
 
@@ -25,36 +32,45 @@ use std::alloc::Global;
 use std::io::Read;
 use store::Archive;
 
-/// Reads a file of lines, and imports it into the archive: whole or not at all, as one request under the token. It
-/// answers what the request is answered, with the report of the file, which is only that of its forest. How far it is
-/// is reported to `progress`.
-///
-/// Where the input is no file, or memory or the reader fails, the refusal is that of `read_forest`, with its line,
-/// and the archive is not touched. Else it is that of `Archive::import`, whose place is the line that is refused.
-/// Where memory for the report is refused, the request is done all the same, and is answered when it comes again.
-pub fn import<S: Alter, R: Read + Device, P: Progress>(
-    alloc: Global,
-    archive: &mut Archive<S>,
-    token: Token,
-    input: &mut R,
-    progress: &mut P,
-) -> Result<(Answer, Report), Refusal>
-    ensures imported { IfOk result (λ done. ImportsAll S.Store token (R.remaining input.old) archive.old done.0 done.1
-        archive.new) }
-    ensures refused { IfErr result (λ e. IsUntold S.Store token (R.remaining input.old) archive.old e archive.new
+/// Reads a file of lines whole, as its forest. Refused as `read_forest` does, with the line.
+pub fn read_file<R: Read + Device>(alloc: Global, input: &mut R) -> Result<Forest, Refusal>
+    ensures read { IfOk result (λ forest. IsFileOf (R.remaining input.old) forest) }
+    ensures refused { IfErr result (λ e. IsNoFile (R.remaining input.old) e
         (Rose (R.failed input.old) (R.failed input.new))) }
-    ensures told { TellsImport P.Tells progress.old progress.new }
-    ensures told_done { OnOk result (TellsImported S.Store P.Tells token (R.remaining input.old) archive.old archive.new
-        progress.old progress.new) }
 {
     match read_forest(alloc, input) {
-        Ok(forest) => import_forest(alloc, archive, token, forest, progress),
+        Ok(forest) => Ok(forest),
         Err(fault) => Err(refusal_of(fault)),
     }
 }
 
+/// Imports a file of lines into the archive: whole or not at all, as one request under the token. It answers what the
+/// request is answered, with the report of the file, which is only that of its forest. How far it is is reported to
+/// `progress`.
+///
+/// Refused as `Archive::import`, whose place is the line that is refused. Where memory for the report is refused, the
+/// request is done all the same, and is answered when it comes again.
+pub fn import_forest<S: Alter, P: Progress>(
+    alloc: Global,
+    archive: &mut Archive<S>,
+    token: Token,
+    forest: Forest,
+    progress: &mut P,
+) -> Result<(Answer, Report), Refusal>
+    ensures imported { (file : Option (List ℕ)) → IsFileOf file forest → IfOk result (λ done.
+        ImportsAll S.Store token file archive.old done.0 done.1 archive.new) }
+    ensures refused { (file : Option (List ℕ)) → IsFileOf file forest → IfErr result (λ e.
+        Imports S.Store token file archive.old (Err e) archive.new
+        ⊎ ImportsSilently S.Store token file archive.old e archive.new) }
+    ensures told { TellsImport P.Tells progress.old progress.new }
+    ensures told_done { (file : Option (List ℕ)) → IsFileOf file forest → OnOk result (TellsImported S.Store P.Tells
+        token file archive.old archive.new progress.old progress.new) }
+{
+    import_reported(alloc, archive, token, forest, progress)
+}
+
 /// Imports a forest, with its report.
-fn import_forest<S: Alter, P: Progress>(
+fn import_reported<S: Alter, P: Progress>(
     alloc: Global,
     archive: &mut Archive<S>,
     token: Token,

@@ -7,7 +7,7 @@
 //! Callers may rely on:
 //! - a row asks for one request, or is refused for one reason; each row is answered by one row, which is written and
 //!   flushed before the next row is decided; what is wrong with a row is reported beside it.
-//! - the file is read whole, and is imported by one request or not at all; the report is only that of the file, also
+//! - a file is read whole, and is imported by one request or not at all; the report is only that of the file, also
 //!   where the request was done before.
 #![tactic(auto)]
 
@@ -27,7 +27,7 @@ pub use applying::{apply, apply_until_refused};
 pub use bad_request::BadRequest;
 pub use entering::perform_once;
 pub use faults::refusal_of;
-pub use import_telling::import_text;
-pub use importing::import;
+pub use import_telling::{import_text, push_lines};
+pub use importing::{import_forest, read_file};
 pub use request::read_request;
 pub use serving::serve_row;

@@ -1,5 +1,5 @@
 -- A task that ended on the archive in a file carries it to what is found then.
-use Rattle.std.proofs.Common.{◌≡◌, [], ℕ, List, inl, inr, refl, subst}
+use Rattle.std.proofs.Common.{◌≡◌, [], ℕ, List, Bool, None, inl, inr, refl, subst}
 use Rattle.std.specs.Prelude.{Option}
 use Rattle.std.proofs.Math.Logic.{∥∥₁_map}
 use Rattle.std.specs.declared.io.Read as read
@@ -21,7 +21,10 @@ use Rattle.devices.specs.declared.device.Device as device
 use Rattle.round_trip.specs.SameLaws.{FileComesBack}
 use Rattle.store.specs.Earlier.{HoldsArchive}
 use Rattle.tasks.specs.Moments.{Streams}
+use Rattle.store.proofs.Viewed.{seen_of}
 use Rattle.tasks.specs.declared.task.Task.{Task}
+use Rattle.tasks.specs.declared.task.Task.TheVariants as task
+use Rattle.archive_runs.specs.Reporting.{EndsBeside, IsOnlyRead}
 use Rattle.archive_runs.specs.Runs.{Carries, Keeps, Left, Run}
 use Rattle.archive_runs.specs.Leaving.{FindsAfter}
 use Rattle.archive_runs.specs.Seeing.{IsSeen, IsSeenAs}
@@ -110,3 +113,37 @@ module _ {R W F : Type 0} (reader : read.Ghosts R) (reads : device.Ghosts R) (wr
     refused (Untouched start) is unwritten one finds = carried_over unwritten one (finds.0 tt)
     refused (Unopened rest) is unwritten one finds = absurd is
     refused (Open conn) is unwritten one finds = absurd is
+
+    -- an archive that was taken up, and only read
+    pub only_read : (left : LeftOf S D g)
+        → IsOnlyRead reader reads writer writes faulter fails image x y status left
+        → FindsAfter image left after → Carries image run after
+    only_read left o finds society c stands =
+        let found = subst (λ (rest : LeftOf S D g). FindsAfter image rest after) o.back finds in
+        carried o.new.conn (found.0 tt stands.0 stands.1)
+        (λ clean society c tables holds had left may.
+        let stays = o.looks.stays clean in
+        let had_it = (o.held.has stays.clean society c tables holds had).0 in
+        keeps_none reader reads writer writes faulter fails x y input seen unseen status ended s is t society c left
+        (acts c o.unprinted o.said.0)
+        (inl (had_it.0, stays.crash had_it.0 c had_it.1 (seen_of had_it.2) left may, had_it.2))) society c stands
+
+-- an import with a report
+module _ {R W F : Type 0} (reader : read.Ghosts R) (reads : device.Ghosts R) (writer : write.Ghosts W)
+    (writes : device.Ghosts W) (faulter : write.Ghosts F) (fails : device.Ghosts F) (x y : Streams R W F)
+    (input seen unseen : List ℕ)
+    (status : ℕ) (ended : Option ℕ) (s : IsSeen reader writer x y input seen unseen) (is : IsSeenAs status unseen ended)
+    (image after : Image) (token : List ℕ) (progress : Bool) where
+  module _ {D S : Type 0} {g : disk.Ghosts D} where
+    pub carries_beside : ArePerformed g → FileComesBack → (left : LeftOf S D g)
+        → EndsBeside reader reads writer writes faulter fails image token progress x y status left
+        → FindsAfter image left after
+        → Carries image (run_of (task.Import token progress) input seen ended) after
+    carries_beside law back left (inl (between, ends, told)) finds =
+        carries reader reads writer writes faulter fails x
+        (record { input = y.input; output = y.output; faults = between }) input seen unseen status ended
+        (record { reads = s.reads; begins = s.begins; writes = s.writes }) is image after (task.Import token progress)
+        law back None left ends finds
+    carries_beside law back left (inr o) finds =
+        only_read reader reads writer writes faulter fails x y input seen unseen status ended s is image after
+        (task.Import token progress) left o finds

@@ -6,4 +6,5 @@ mod Found
 mod Idle
 mod Paging
 mod Placed
+mod Reported
 mod Seen

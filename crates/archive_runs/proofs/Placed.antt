@@ -11,11 +11,9 @@ use Rattle.std.proofs.Common.{
   ℕ,
   Bool,
   List,
-  Some,
   None,
   Ok,
   Err,
-  add-one,
   ap,
   append-nil,
   false,
@@ -49,7 +47,7 @@ use Rattle.archive_input.specs.Applying.{PerformsAll, Steps}
 use Rattle.archive_output.specs.Reading.{OnlyReads}
 use Rattle.archive_state.specs.Content.{Content}
 use Rattle.archive_tables.specs.Ends.{OnRead}
-use Rattle.archive_tables.specs.Entering.{EntersEntries, EntersPage, IsEntered, page_request}
+use Rattle.archive_tables.specs.Entering.{EntersEntries, EntersPage, page_request}
 use Rattle.archive_tables.specs.Making.{
   AsksPlace,
   EntersTried,
@@ -68,7 +66,7 @@ use Rattle.archive_tables.specs.declared.entering.PageEnd.TheVariants.{Entered, 
 use Rattle.archive_tables.specs.declared.making.MadePlace.{MadePlace}
 use Rattle.archive_tables.proofs.Entered.{performs_all, same_shut}
 use Rattle.commands.specs.declared.entry_row.EntryRow.{EntryRow}
-use Rattle.page_batches.specs.Batches.{rows_on, unplaced}
+use Rattle.page_batches.specs.Batches.{rows_on}
 use Rattle.page_batches.specs.Placing.{parent_on}
 use Rattle.page_batches.specs.Words.{numbers_of}
 use Rattle.page_batches.specs.declared.rows.BatchRefusal.{BatchRefusal}

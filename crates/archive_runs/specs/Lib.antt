@@ -1,5 +1,6 @@
 pub mod Tasks
 pub mod Reading
+pub mod Reporting
 pub mod Runs
 pub mod Beginning
 pub mod Leaving

@@ -4,7 +4,7 @@
 //!
 //! What is found of the archive in a file after a run: of a task on it, or of none.
 
-ghost use Rattle.std.specs.Prelude.{◌≡◌, ℕ, List, Option, Some};
+ghost use Rattle.std.specs.Prelude.{◌≡◌, ℕ, Bool, List, Option, Some};
 ghost use Rattle.sqlite.specs.Files.{file_state, over_files};
 ghost use Rattle.sqlite_store.specs.declared.store.FileStore.{FileStore};
 ghost use Rattle.sqlite_wal.specs.Recovery.{Image};
@@ -25,11 +25,13 @@ ghost use Rattle.archive_files.specs.DatabaseOpening.{IsUntouched};
 ghost use Rattle.archive_files.specs.declared.left.Left.{Left};
 ghost use Rattle.archive_runs.specs.Beginning.{HasNoTask, idle};
 ghost use Rattle.archive_runs.specs.Leaving.{FindsAfter};
+ghost use Rattle.archive_runs.specs.Reporting.{EndsBeside};
 ghost use Rattle.archive_runs.specs.Seeing.{IsSeen, IsSeenAs};
 ghost use Rattle.store.specs.Archives.{HasArchive, LeavesArchive};
 ghost use Rattle.store.specs.Earlier.{HadArchive, LeavesHeld};
 ghost use Rattle.tasks.specs.Moments.{Streams};
 ghost use Rattle.tasks.specs.declared.task.Task.{Task};
+ghost use Rattle.tasks.specs.declared.task.Task.TheVariants as task;
 
 use devices::Device;
 use older_archives::laws::what_was_sound_is_sound_anew;
@@ -66,7 +68,8 @@ pub fn runs_of_the_program_lose_nothing()
 }
 
 /// A task that ended on the archive in a file, whatever was seen of it: it keeps what it says, and the file holds that
-/// where it holds what a crash may leave of the connection. So does one that was refused before the file was opened.
+/// where it holds what a crash may leave of the connection. So does one that was refused before the file was opened,
+/// and an import with a report.
 pub fn a_task_on_a_file_loses_nothing<
     S,
     D: Disk,
@@ -83,6 +86,16 @@ pub fn a_task_on_a_file_loses_nothing<
         (input seen unseen : List ℕ) (ended : Option ℕ) → IsUntouched left → y.output ≡ x.output → status ≡ 1
         → IsSeen R.Read W.Write x y input seen unseen → IsSeenAs status unseen ended → FindsAfter image left after
         → Carries image (record { task = Some task; input = input; written = seen; status = ended }) after }
+    ensures beside { (image after : Image) (token : List ℕ) (progress : Bool) (x y : Streams R W F) (status : ℕ)
+        (left : Left S D D.Disk) (input seen unseen : List ℕ) (ended : Option ℕ)
+        → EndsBeside R.Read R.Device W.Write W.Device F.Write F.Device image token progress x y status left
+        → IsSeen R.Read W.Write x y input seen unseen → IsSeenAs status unseen ended → FindsAfter image left after
+        → Carries image (record {
+          task = Some (task.Import token progress);
+          input = input;
+          written = seen;
+          status = ended;
+        }) after }
 {
     requests_are_performed_on_the_archive_of_the_file::<D>();
     an_exported_file_gives_the_same_records();

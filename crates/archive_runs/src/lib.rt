@@ -17,4 +17,4 @@ pub mod laws;
 mod tasks_on_files;
 
 pub use closing::{close_file, stop_file};
-pub use tasks_on_files::perform_on_file;
+pub use tasks_on_files::{import_on_file, perform_on_file};

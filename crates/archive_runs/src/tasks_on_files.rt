@@ -2,14 +2,16 @@
 
 ghost use Rattle.std.specs.Prelude.{Err};
 ghost use Rattle.sqlite_wal.specs.Files.{image_at};
+ghost use Rattle.archive_runs.specs.Reporting.{EndsBeside, EndsReportedOnFile};
 ghost use Rattle.archive_runs.specs.Tasks.{EndsOnFile};
 
 use archive_files::{Left, LeftFile, Openable, open};
 use archive_output::Shelf;
 use devices::Device;
+use receipts::Token;
 use std::io::{Read, Write};
 use std::rt::HostRuntime;
-use tasks::{FaultStream, Task, perform_task, placeless, status_of};
+use tasks::{FaultStream, Task, import_reported, perform_task, placeless, status_of};
 
 /// Opens the archive in a file, performs a task on it, and gives the exit status; of `Task::Library` also what may be
 /// shown; and what is left of the file.
@@ -44,5 +46,53 @@ pub fn perform_on_file<S: Openable, R: Read + Device, W: Write + Device, F: Faul
             (status, shown, Left::Open(archive.into_connection()))
         }
         Err((kind, left)) => (status_of(Err(placeless(kind)), faults), None, left),
+    }
+}
+
+/// Opens the archive in a file, and imports the file of the input under a token, after its report was written, as
+/// `tasks::import_reported`; where it cannot be opened, as `perform_on_file`. Gives the exit status, whether the report
+/// is to be kept, and what is left of the file.
+pub fn import_on_file<
+    S: Openable,
+    R: Read + Device,
+    P: Write + Device,
+    W: Write + Device,
+    F: FaultStream,
+>(
+    rt: &HostRuntime,
+    file: &str,
+    start: S,
+    token: Token,
+    progress: bool,
+    input: &mut R,
+    report: &mut P,
+    output: &mut W,
+    faults: &mut F,
+) -> (u8, bool, LeftFile<S>)
+    ensures reported { EndsReportedOnFile R.Read R.Device W.Write W.Device F.Write F.Device P.Write P.Device
+        (image_at S.Start) token progress
+        (record { input = input.old; output = output.old; faults = faults.old })
+        (record { input = input.new; output = output.new; faults = faults.new }) report.old report.new result.0 result.1
+        result.2 }
+    ensures beside { EndsBeside R.Read R.Device W.Write W.Device F.Write F.Device (image_at S.Start) token progress
+        (record { input = input.old; output = output.old; faults = faults.old })
+        (record { input = input.new; output = output.new; faults = faults.new }) result.0 result.2 }
+{
+    match open(rt, file, start) {
+        Ok(mut archive) => {
+            let (status, kept) = import_reported(
+                rt.alloc(),
+                rt,
+                &mut archive,
+                token,
+                progress,
+                input,
+                report,
+                output,
+                faults,
+            );
+            (status, kept, Left::Open(archive.into_connection()))
+        }
+        Err((kind, left)) => (status_of(Err(placeless(kind)), faults), false, left),
     }
 }

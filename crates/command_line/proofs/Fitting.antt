@@ -162,8 +162,8 @@ fit_of (asked.CheckTable file source form) found e has some =
     fit_by (asked.CheckTable file source form) found (codes "entries") e has
     (λ rows words. table_there _ _ (is_batch_fit (Some (codes "entries", rows))) _ _ words.2 words.4
     (form_there (Some (codes "entries", rows)) form words.3))
-fit_of (asked.Import file token progress) found e has some =
-    fit_by (asked.Import file token progress) found (codes "import") e has (λ rows words. refl)
+fit_of (asked.Import file token progress report) found e has some =
+    fit_by (asked.Import file token progress report) found (codes "import") e has (λ rows words. refl)
 fit_of (asked.Export file) found e has some =
     fit_by (asked.Export file) found (codes "export") e has (λ rows words. none_there _ _ _ words.1 words.2)
 fit_of (asked.ExportPublic file today) found e has some =

@@ -107,7 +107,7 @@ name_of (Apply file stops) = Some (codes "apply")
 name_of (EntriesAsked file source token) = Some (codes "entries")
 name_of (EnterTable file source form token) = Some (codes "entries")
 name_of (CheckTable file source form) = Some (codes "entries")
-name_of (Import file token progress) = Some (codes "import")
+name_of (Import file token progress report) = Some (codes "import")
 name_of (Export file) = Some (codes "export")
 name_of (ExportPublic file today) = Some (codes "export")
 name_of (ExportPlain file) = Some (codes "export")
@@ -241,9 +241,9 @@ HasWords found (EnterTable file source form token) =
 HasWords found (CheckTable file source form) =
     (file.now ≡ word_in found (codes "FILE")) × (source ≡ number_of (word_in found (codes "source")))
     × (is_table found ≡ true) × HasForm found form × (is_checked found ≡ true)
-HasWords found (Import file token progress) =
+HasWords found (Import file token progress report) =
     (file.now ≡ word_in found (codes "FILE")) × (token.now ≡ word_in found (codes "token"))
-    × (progress ≡ is_told found)
+    × (progress ≡ is_told found) × (option_map (λ w. w.now) report ≡ given_in found (codes "report"))
 HasWords found (Export file) =
     (file.now ≡ word_in found (codes "FILE")) × (is_public found ≡ false) × (given_in found (codes "today") ≡ None)
     × (is_plain found ≡ false)

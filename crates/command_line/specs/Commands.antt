@@ -118,6 +118,10 @@ plain_rule = flag_rule (codes "plain")
 abbrev pub progress_rule : Rule
 progress_rule = flag_rule (codes "progress")
 
+-- `--report REPORT`, any word here
+abbrev pub report_rule : Rule
+report_rule = option_rule (codes "report")
+
 -- `--generations G`, which may be left out
 abbrev pub generations_rule : Rule
 generations_rule = maybe_number_rule (codes "generations") 1 12
@@ -210,7 +214,9 @@ entries_shape = record (new_shape (codes "entries")) {
 }
 
 abbrev pub import_shape : Shape
-import_shape = record (new_shape (codes "import")) { rules = file_rule ∷ token_rule ∷ progress_rule ∷ [] }
+import_shape = record (new_shape (codes "import")) {
+  rules = file_rule ∷ token_rule ∷ progress_rule ∷ report_rule ∷ [];
+}
 
 abbrev pub export_shape : Shape
 export_shape = record (new_shape (codes "export")) {

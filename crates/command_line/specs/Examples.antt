@@ -28,6 +28,11 @@ abbrev pub told_import_words : Text → List Text
 told_import_words name =
     name ∷ codes "import" ∷ codes "ashby.db" ∷ codes "--token" ∷ codes "first-file" ∷ codes "--progress" ∷ []
 
+abbrev pub reported_import_words : Text → List Text
+reported_import_words name =
+    name ∷ codes "import" ∷ codes "ashby.db" ∷ codes "--token" ∷ codes "first-file" ∷ codes "--report"
+    ∷ codes "first-file.txt" ∷ []
+
 abbrev pub public_words : Text → List Text
 public_words name =
     name ∷ codes "export" ∷ codes "ashby.db" ∷ codes "--public" ∷ codes "--today" ∷ codes "2024-01-01" ∷ []

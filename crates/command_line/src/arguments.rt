@@ -124,6 +124,14 @@ pub(crate) const PROGRESS: Word = Word {
     numbers: None,
 };
 
+pub(crate) const REPORT: Word = Word {
+    id: "report",
+    help: "A new file for what became of the header, the records and the lines",
+    form: Form::Named("REPORT"),
+    needed: false,
+    numbers: None,
+};
+
 /// Whether it is a kind of sheet is judged where it is read.
 pub(crate) const SHEET_KIND: Word = Word {
     id: "KIND",

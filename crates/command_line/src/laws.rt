@@ -1,6 +1,6 @@
 //! Laws of command lines, over the definitions that the contracts cite.
 
-ghost use Rattle.std.specs.Prelude.{◌≡◌, [], ◌∷◌, Some, codes, false, pos, true};
+ghost use Rattle.std.specs.Prelude.{◌≡◌, [], ◌∷◌, None, Some, codes, false, pos, true};
 ghost use Rattle.clap.specs.Words.{Text, subcommand_of};
 ghost use Rattle.calendar_days.specs.Calendars.{day_number};
 ghost use Rattle.calendar_days.specs.declared.calendar.Calendar.TheVariants.{Gregorian};
@@ -8,6 +8,7 @@ ghost use Rattle.command_line.specs.Asking.{
   IsTaken,
   day_given,
   generations_in,
+  given_in,
   is_checked,
   is_given,
   is_html,
@@ -30,6 +31,7 @@ ghost use Rattle.command_line.specs.Examples.{
   plain_words,
   public_plain_words,
   public_words,
+  reported_import_words,
   serve_words,
   sheet_words,
   stopping_words,
@@ -95,7 +97,8 @@ pub fn an_entered_table_is_taken()
 {}
 
 /// An import is taken as the help of `import` shows it, and has the file and the token that are shown there; it says
-/// how far it is where `--progress` is given, and nowhere else.
+/// how far it is where `--progress` is given, and nowhere else; and it has the report that is shown there where
+/// `--report` is given, and else none.
 pub fn an_import_is_taken()
     ensures taken { (name : Text) → IsTaken (import_words name) }
     ensures file { (name : Text) → word_in (subcommand_of program (import_words name)) (codes "FILE")
@@ -105,6 +108,12 @@ pub fn an_import_is_taken()
     ensures untold { (name : Text) → is_told (subcommand_of program (import_words name)) ≡ false }
     ensures told_taken { (name : Text) → IsTaken (told_import_words name) }
     ensures told { (name : Text) → is_told (subcommand_of program (told_import_words name)) ≡ true }
+    ensures unreported { (name : Text) → given_in (subcommand_of program (import_words name)) (codes "report") ≡ None }
+    ensures reported_taken { (name : Text) → IsTaken (reported_import_words name) }
+    ensures reported_file { (name : Text)
+        → word_in (subcommand_of program (reported_import_words name)) (codes "FILE") ≡ codes "ashby.db" }
+    ensures report { (name : Text) → given_in (subcommand_of program (reported_import_words name)) (codes "report")
+        ≡ Some (codes "first-file.txt") }
 {}
 
 /// An export for the public is taken as the help of `export` shows it, and is one for the public, and no plain one.

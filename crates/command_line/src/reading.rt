@@ -32,7 +32,7 @@ use crate::entering::entries_asked;
 use crate::showing::{days_asked, export_asked, serve_asked, sheet_asked};
 use crate::subcommands::parish_command;
 use crate::tasks::{Asked, Refused};
-use crate::words::{is_yes, number_of, word_of};
+use crate::words::{given_word, is_yes, number_of, word_of};
 use clap::error::ErrorKind;
 use clap::{ArgMatches, Error};
 use std::alloc::Global;
@@ -97,6 +97,7 @@ fn command_named<'a>(
             file: word_of(given, "FILE"),
             token: word_of(given, "token"),
             progress: is_yes(word_of(given, "progress")),
+            report: given_word(given, "report"),
         }),
         "export" => export_asked(alloc, given),
         "sheet" => sheet_asked(alloc, given),

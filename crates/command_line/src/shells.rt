@@ -59,7 +59,8 @@ review completions --help --version'
             entries:*) [[ $word != -* ]] || offered='--source --token --table --check --make-places --dates --from \
 --help' files= ;;
             import:--token) offered='' files= ;;
-            import:*) [[ $word != -* ]] || offered='--token --progress --help' files= ;;
+            import:--report) offered='' files=1 ;;
+            import:*) [[ $word != -* ]] || offered='--token --progress --report --help' files= ;;
             export:--today) offered='' files= ;;
             export:*) [[ $word != -* ]] || offered='--public --today --plain --help' files= ;;
             sheet:--today) offered='' files= ;;
@@ -165,7 +166,8 @@ macintosh ansel)'
         _arguments '--help[Print help]' \\
             '1:The file of the archive:_files' \\
             '--token[The token of the request\\: 1 to 64 characters from `!` to `~`]:T:' \\
-            '--progress[Tell on standard error how many rows are written]'
+            '--progress[Tell on standard error how many rows are written]' \\
+            '--report[A new file for what became of the header, the records and the lines]:REPORT:_files'
         ;;
     export)
         _arguments '--help[Print help]' \\

@@ -9,8 +9,8 @@ ghost use Rattle.command_line.specs.Described.{rule_described, shape_described};
 use crate::arguments::{
     AFTER, ALL, CHECKED, COUNT, CSV, FILE, FIRST_DAY, FOUND_LIMIT, GENERATIONS, HOST, HTML,
     LAST_DAY, LIMIT, MAKES, MAYBE_SOURCE, MAYBE_TODAY, MAYBE_TOKEN, OPTION_KIND, ORDER, PLAIN,
-    PORT, PROGRESS, PUBLIC, RECORD, RECORD_KIND, RECORDS, SEARCH, SET, SHEET_KIND, SHELL, SOCIETY,
-    SOURCE, STOP, TABLE, TODAY, TOKEN, WORDS, Word, arg_of,
+    PORT, PROGRESS, PUBLIC, RECORD, RECORD_KIND, RECORDS, REPORT, SEARCH, SET, SHEET_KIND, SHELL,
+    SOCIETY, SOURCE, STOP, TABLE, TODAY, TOKEN, WORDS, Word, arg_of,
 };
 use crate::texts_finding::{
     COMPLETIONS_ABOUT, COMPLETIONS_EXAMPLE, FIND_ABOUT, FIND_EXAMPLE, HISTORY_ABOUT,
@@ -124,7 +124,7 @@ const IMPORT: CommandRow = CommandRow {
     name: "import",
     about: IMPORT_ABOUT,
     example: IMPORT_EXAMPLE,
-    words: &[FILE, TOKEN, PROGRESS],
+    words: &[FILE, TOKEN, PROGRESS, REPORT],
 };
 
 const EXPORT: CommandRow = CommandRow {

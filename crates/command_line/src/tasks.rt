@@ -52,11 +52,13 @@ pub enum Asked<'a> {
         form: TableWords,
     },
     /// `import`: the file of standard input taken into the archive in a file, under a token, and its report on standard
-    /// output. The token may be any word. With `progress` standard error says how far it is.
+    /// output. The token may be any word. With `progress` standard error says how far it is. A longer report goes into
+    /// the file `report`, where one is given.
     Import {
         file: &'a str,
         token: &'a str,
         progress: bool,
+        report: Option<&'a str>,
     },
     /// `export`: the whole archive in a file as a GEDCOM file, on standard output.
     Export {

@@ -143,6 +143,13 @@ Who sends the same file again under T gets the same, and nothing is done twice.
 With --progress standard error tells how far it is: at most once a second, and at
 the end, a line `staged <n> of <m> rows`, m being the rows that FILE gets.
 
+With --report a new file REPORT gets the lines of the header, which FILE does
+not keep, as `line <n>: head: <line>`, then the number of each record that has a
+cross reference, as `line <n>: @I44@ is person 12`, and then the same lines
+`line <n>: <word>`. If REPORT is there already or cannot be made, it is 80, and
+nothing is taken in. If the file was taken in under T before, no REPORT is left,
+and standard error says so.
+
 Words of the report:
   dangling       its pointer names no record of the file: the line is dropped
   one-sided      a family and a person do not both name the other: dropped
@@ -161,4 +168,5 @@ how to move in from another program.
 
 Examples:
   parish import ashby.db --token first-file < family.ged
-  parish import ashby.db --token first-file --progress < family.ged";
+  parish import ashby.db --token first-file --progress < family.ged
+  parish import ashby.db --token first-file --report first-file.txt < family.ged";

@@ -1,2 +1,4 @@
 pub mod Heads
 pub mod Records
+pub mod Reports
+pub mod Writing

@@ -19,11 +19,12 @@ use Rattle.std.proofs.Common.{
   subst,
   sym,
 }
-use Rattle.std.specs.Prelude.{Option, IfErr, OnOk}
+use Rattle.std.specs.Prelude.{Option, Bool, IfErr, OnOk, false, is_some, true}
 use Rattle.std.specs.declared.io.Read as read
 use Rattle.std.specs.declared.io.Write as write
 use Rattle.sqlite_disk.specs.declared.Disk as disk
 use Rattle.sqlite_wal.specs.Recovery.{Image}
+use Rattle.archive_runs.specs.Reporting.{EndsBeside}
 use Rattle.archive_runs.specs.Tasks.{EndsOnFile}
 use Rattle.archive_files.specs.Made.{IsMadeIn, Unmade}
 use Rattle.archive_state.specs.Content.{Content, nothing}
@@ -32,7 +33,7 @@ use Rattle.command_line.specs.declared.tasks.Asked.TheVariants as asked
 use Rattle.archive_files.specs.DatabaseOpening.{IsUntouched}
 use Rattle.archive_files.specs.declared.left.Left.{Left}
 use Rattle.devices.specs.declared.device.Device as device
-use Rattle.parish.specs.Doing.{Does, DoesTask, DoesUnder, Finished, IsNoToken}
+use Rattle.parish.specs.Doing.{Does, DoesImport, DoesTask, DoesUnder, Finished, IsNoToken}
 use Rattle.parish.specs.Lists.{find_task, list_task, review_task}
 use Rattle.parish.specs.Rows.{apply_task}
 use Rattle.parish.specs.Tables.{entering_task, table_task}
@@ -70,6 +71,9 @@ module _ {R W F D S : Type 0} {g : disk.Ghosts D} (reader : read.Ghosts R) (read
       → Carries image (run (Some t)) after)
       (untried : (t : Task) → IsUntouched left → y.output ≡ x.output → status ≡ 1
       → Carries image (run (Some t)) after)
+      (besides : (token : List ℕ) (progress : Bool)
+      → EndsBeside reader reads writer writes faulter fails image token progress x y status left
+      → Carries image (run (Some (task.Import token progress))) after)
       (idles : (society : List ℕ) → HasNoTask image society left → Carries image (idle bytes seen ended) after)
       (begins : (society : List ℕ) → IsMadeIn image society left → ∥ Stands society nothing after ∥₁)
     where
@@ -89,6 +93,16 @@ module _ {R W F D S : Type 0} {g : disk.Ghosts D} (reader : read.Ghosts R) (read
           → Carries image (run (Some t)) after
       under word t (inl bad) = untried t bad.3.0 bad.2 (no_token word bad.0)
       under word t (inr did) = performs t did.1
+
+      imported : (reported : Bool) (word : List ℕ) (progress : Bool)
+          → DoesImport reader reads writer writes faulter fails image status x y left room reported word progress
+          → Carries image (run (Some (task.Import word progress))) after
+      imported false word progress did = under word (task.Import word progress) did
+      imported true word progress (inl bad) =
+          untried (task.Import word progress) bad.3.0 bad.2 (no_token word bad.0)
+      imported true word progress (inr (token, inl unmade)) =
+          untried (task.Import word progress) unmade.3 unmade.2 unmade.0.1.0
+      imported true word progress (inr (token, inr did)) = besides word progress did.0
 
       -- ---- a new archive
       made_or_not : (society : List ℕ) (r : Plain) → OnOk r (IsMadeIn image society left)
@@ -126,8 +140,9 @@ module _ {R W F D S : Type 0} {g : disk.Ghosts D} (reader : read.Ghosts R) (read
           let t = entering_task token.now source form in ((Some t, refl, under token.now t did), tt)
       is_run (asked.CheckTable file source form) did =
           let t = table_task source form in ((Some t, refl, performs t did), tt)
-      is_run (asked.Import file token progress) did =
-          let t = task.Import token.now progress in ((Some t, refl, under token.now t did), tt)
+      is_run (asked.Import file token progress report) did =
+          let t = task.Import token.now progress in
+          ((Some t, refl, imported (is_some report) token.now progress did), tt)
       is_run (asked.Export file) did = ((Some task.Export, refl, performs task.Export did), tt)
       is_run (asked.ExportPublic file today) did =
           let t = task.ExportPublic today in ((Some t, refl, performs t did), tt)

@@ -3,7 +3,9 @@ use Rattle.std.proofs.Common.{
   ◌≡◌,
   ◌⊎◌,
   ◌≤◌,
+  ◌||◌,
   ℕ,
+  Bool,
   List,
   true,
   false,
@@ -16,13 +18,14 @@ use Rattle.std.proofs.Common.{
   Err,
   true≢false,
 }
-use Rattle.std.specs.Prelude.{Option, Result, OnErr, OnOk}
+use Rattle.std.specs.Prelude.{Option, None, Result, OnErr, OnOk, is_some}
 use Rattle.std.specs.Io.KnownBytes.{Appends}
 use Rattle.std.specs.declared.io.Read as read
 use Rattle.std.specs.declared.io.Write as write
 use Rattle.sqlite_disk.specs.declared.Disk as disk
 use Rattle.sqlite_wal.specs.Recovery.{Image}
 use Rattle.sqlite.specs.Files.{over_files}
+use Rattle.archive_runs.specs.Reporting.{EndsBeside}
 use Rattle.archive_runs.specs.Tasks.{EndsOnFile}
 use Rattle.archive_state.specs.Content.{Content}
 use Rattle.command_line.specs.declared.tasks.Asked.{Asked}
@@ -30,14 +33,14 @@ use Rattle.command_line.specs.declared.tasks.Asked.TheVariants as asked
 use Rattle.archive_files.specs.declared.left.Left.{Left}
 use Rattle.devices.specs.Devices.{AppendsBeginning}
 use Rattle.devices.specs.declared.device.Device as device
-use Rattle.parish.specs.Doing.{Does, DoesUnder, Finished, tells}
+use Rattle.parish.specs.Doing.{Does, DoesImport, DoesUnder, Finished, tells}
 use Rattle.parish.specs.Lists.{find_task, list_task, review_task}
 use Rattle.parish.specs.Rooms.{VisitsEnd}
 use Rattle.parish.specs.Rows.{apply_task}
 use Rattle.parish.specs.Tables.{entering_task, table_task}
 use Rattle.parish.specs.declared.visits.Visits.{Visits}
 use Rattle.reading_room.specs.Listening.{listening_line}
-use Rattle.record_text.specs.declared.refusal.RefusalKind.TheVariants.{WriteFailed}
+use Rattle.record_text.specs.declared.refusal.RefusalKind.TheVariants.{Storage, WriteFailed}
 use Rattle.tasks.proofs.Quiet.{at_most_1, done_quiet, ends_at_most_1, ends_quietly, says}
 use Rattle.tasks.specs.Moments.{Streams, at}
 use Rattle.tasks.specs.Status.{Finishes, Outcome, Plain, as_text, placeless_text}
@@ -47,6 +50,17 @@ use Rattle.tasks.specs.declared.task.Task.TheVariants as task
 on_ok : {A E P : Type 0} (r : Result A E) → P → OnOk r P
 on_ok (Ok a) p = p
 on_ok (Err e) p = tt
+
+-- the status of a task on a file is 0 or 1
+bound_of : {D S R W F : Type 0} {g : disk.Ghosts D} (reader : read.Ghosts R) (reads : device.Ghosts R)
+    (writer : write.Ghosts W) (writes : device.Ghosts W) (faulter : write.Ghosts F) (fails : device.Ghosts F)
+    (image : Image) (status : ℕ) (x y : Streams R W F) (left : Left S D g) (t : Task) (shown : Option Content)
+    → EndsOnFile reader reads writer writes faulter fails image t x y status shown left → status ≤ 1
+bound_of reader reads writer writes faulter fails image status x y left t shown (inl un) =
+    at_most_1 faulter.contents fails.failed (Err (placeless_text un.kind)) status x.faults y.faults un.finishes
+bound_of reader reads writer writes faulter fails image status x y left t shown (inr on) =
+    ends_at_most_1 over_files reader reads writer writes faulter fails t (at on.taken x)
+    (at on.new y) status shown on.ends
 
 module _ {D S R W F : Type 0} {g : disk.Ghosts D} (reader : read.Ghosts R) (reads : device.Ghosts R)
     (writer : write.Ghosts W) (writes : device.Ghosts W) (faulter : write.Ghosts F) (fails : device.Ghosts F)
@@ -63,16 +77,30 @@ module _ {D S R W F : Type 0} {g : disk.Ghosts D} (reader : read.Ghosts R) (read
 
   file_at_most_1 : (t : Task) (shown : Option Content)
       → EndsOnFile reader reads writer writes faulter fails image t x y status shown left → status ≤ 1
-  file_at_most_1 t shown (inl un) =
-      at_most_1 faulter.contents fails.failed (Err (placeless_text un.kind)) status x.faults y.faults un.finishes
-  file_at_most_1 t shown (inr on) =
-      ends_at_most_1 over_files reader reads writer writes faulter fails t (at on.taken x)
-      (at on.new y) status shown on.ends
+  file_at_most_1 t shown ends =
+      bound_of reader reads writer writes faulter fails image status x y left t shown ends
 
   under_at_most_1 : (word : List ℕ) (t : Task)
       → DoesUnder reader reads writer writes faulter fails image status x y left room word t → status ≤ 1
   under_at_most_1 word t (inl none) = finished_at_most_1 _ none.0
   under_at_most_1 word t (inr did) = file_at_most_1 t did.1.0 did.1.1
+
+  beside_at_most_1 : (token : List ℕ) (progress : Bool)
+      → EndsBeside reader reads writer writes faulter fails image token progress x y status left → status ≤ 1
+  beside_at_most_1 token progress (inl (between, ends, told)) =
+      bound_of reader reads writer writes faulter fails image status x
+      (record { input = y.input; output = y.output; faults = between }) left (task.Import token progress) None ends
+  beside_at_most_1 token progress (inr o) =
+      at_most_1 faulter.contents fails.failed (Err (placeless_text o.kind)) status x.faults y.faults o.said
+
+  import_at_most_1 : (reported : Bool) (word : List ℕ) (progress : Bool)
+      → DoesImport reader reads writer writes faulter fails image status x y left room reported word progress
+      → status ≤ 1
+  import_at_most_1 false word progress did = under_at_most_1 word (task.Import word progress) did
+  import_at_most_1 true word progress (inl none) = finished_at_most_1 _ none.0
+  import_at_most_1 true word progress (inr (token, inl unmade)) =
+      at_most_1 faulter.contents fails.failed (Err (placeless_text Storage)) status x.faults unmade.0.0 unmade.0.1
+  import_at_most_1 true word progress (inr (token, inr did)) = beside_at_most_1 word progress did.0
 
   pub does_at_most_1 : (a : Asked) → Does reader reads writer writes faulter fails image status x y left room a
       → status ≤ 1
@@ -89,8 +117,8 @@ module _ {D S R W F : Type 0} {g : disk.Ghosts D} (reader : read.Ghosts R) (read
       under_at_most_1 token.now (entering_task token.now source form) did
   does_at_most_1 (asked.CheckTable file source form) did =
       file_at_most_1 (table_task source form) did.0 did.1
-  does_at_most_1 (asked.Import file token progress) did =
-      under_at_most_1 token.now (task.Import token.now progress) did
+  does_at_most_1 (asked.Import file token progress report) did =
+      import_at_most_1 (is_some report) token.now progress did
   does_at_most_1 (asked.Export file) did =
       file_at_most_1 task.Export did.0 did.1
   does_at_most_1 (asked.ExportPublic file today) did =
@@ -145,6 +173,14 @@ module _ {D S R W F : Type 0} {g : disk.Ghosts D} (reader : read.Ghosts R) (read
   under_quietly word t (inl none) is zero = finished_quietly _ none.0 zero
   under_quietly word t (inr did) is zero = file_quietly t did.1.0 did.1.1 is zero
 
+  import_quietly : (reported : Bool) (word : List ℕ) (progress : Bool)
+      → DoesImport reader reads writer writes faulter fails image status x y left room reported word progress
+      → (progress || reported) ≡ false → status ≡ 0 → y.faults ≡ x.faults
+  import_quietly false word false did is zero = under_quietly word (task.Import word false) did refl zero
+  import_quietly false word true did is zero = absurd (true≢false is)
+  import_quietly true word false did is zero = absurd (true≢false is)
+  import_quietly true word true did is zero = absurd (true≢false is)
+
   pub does_quietly : (a : Asked) → Does reader reads writer writes faulter fails image status x y left room a
       → tells a ≡ false → status ≡ 0 → y.faults ≡ x.faults
   does_quietly asked.Norm did is zero = finished_quietly _ did.0 zero
@@ -158,8 +194,8 @@ module _ {D S R W F : Type 0} {g : disk.Ghosts D} (reader : read.Ghosts R) (read
   does_quietly (asked.EnterTable file source form token) did is zero = absurd (true≢false is)
   does_quietly (asked.CheckTable file source form) did is zero =
       file_quietly (table_task source form) did.0 did.1 refl zero
-  does_quietly (asked.Import file token progress) did is zero =
-      under_quietly token.now (task.Import token.now progress) did is zero
+  does_quietly (asked.Import file token progress report) did is zero =
+      import_quietly (is_some report) token.now progress did is zero
   does_quietly (asked.Export file) did is zero =
       file_quietly task.Export did.0 did.1 refl zero
   does_quietly (asked.ExportPublic file today) did is zero =

@@ -1,5 +1,5 @@
 -- What was done under a token, or on a day, was done under an equal one.
-use Rattle.std.proofs.Common.{◌≡◌, ℕ, List, subst}
+use Rattle.std.proofs.Common.{◌≡◌, ℕ, List, false, inl, subst, true}
 use Rattle.std.specs.Prelude.{ℤ, Bool, Option}
 use Rattle.std.specs.declared.io.Read as read
 use Rattle.std.specs.declared.io.Write as write
@@ -9,7 +9,8 @@ use Rattle.archive_runs.specs.Tasks.{EndsOnFile}
 use Rattle.archive_state.specs.Content.{Content}
 use Rattle.archive_files.specs.declared.left.Left.{Left}
 use Rattle.devices.specs.declared.device.Device as device
-use Rattle.parish.specs.Doing.{DoesTask}
+use Rattle.parish.specs.Doing.{DoesImport, DoesTask, Finished, IsNoToken, OpensNothing}
+use Rattle.parish.specs.Reporting.{ImportsReported}
 use Rattle.parish.specs.declared.visits.Visits.{Visits}
 use Rattle.tasks.specs.Moments.{Streams}
 use Rattle.tasks.specs.declared.task.Task.{Task}
@@ -50,3 +51,20 @@ module _ {D S R W F : Type 0} {g : disk.Ghosts D} (reader : read.Ghosts R) (read
       subst (λ (d : ℤ). EndsOnFile reader reads writer writes faulter fails image
       (task.Library d) x y status shown left) e
       did
+
+  pub reported_under : (room : Option Visits) (progress : Bool) (word token : List ℕ) → word ≡ token
+      → ImportsReported reader reads writer writes faulter fails image status x y left room word progress
+      → ImportsReported reader reads writer writes faulter fails image status x y left room token progress
+  reported_under room progress word token e did =
+      subst (λ (v : List ℕ). ImportsReported reader reads writer writes faulter fails image status x y left room v
+      progress) e did
+
+  -- of a word that is no token nothing is done, whether a report is asked for or not
+  pub no_token_either : (room : Option Visits) (reported : Bool) (word : List ℕ) (progress : Bool)
+      → Finished reader reads writer writes faulter fails image status x y left room
+      (IsNoToken reader reads writer writes faulter fails image status x y left room word)
+      → y.input ≡ x.input → y.output ≡ x.output
+      → OpensNothing reader reads writer writes faulter fails image status x y left room
+      → DoesImport reader reads writer writes faulter fails image status x y left room reported word progress
+  no_token_either room false word progress none unread unwritten opens = inl (none, unread, unwritten, opens)
+  no_token_either room true word progress none unread unwritten opens = inl (none, unread, unwritten, opens)

@@ -32,7 +32,7 @@ module _ {R W F D S : Type 0} {g : disk.Ghosts D} (reader : read.Ghosts R) (read
   untaken (asked.Entries file source token) is did help = absurd (none is.0)
   untaken (asked.EnterTable file source form token) is did help = absurd (none is.0)
   untaken (asked.CheckTable file source form) is did help = absurd (none is.0)
-  untaken (asked.Import file token progress) is did help = absurd (none is.0)
+  untaken (asked.Import file token progress report) is did help = absurd (none is.0)
   untaken (asked.Export file) is did help = absurd (none is.0)
   untaken (asked.ExportPublic file today) is did help = absurd (none is.0)
   untaken (asked.ExportPlain file) is did help = absurd (none is.0)

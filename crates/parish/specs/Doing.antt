@@ -3,6 +3,7 @@
 use Rattle.std.specs.Prelude.{
   ◌≡◌,
   ◌⊎◌,
+  ◌||◌,
   ℕ,
   Bool,
   true,
@@ -15,6 +16,7 @@ use Rattle.std.specs.Prelude.{
   OnOk,
   option_map,
   IsSome,
+  is_some,
   string_bytes,
 }
 use Rattle.std.specs.declared.io.Read as read
@@ -60,6 +62,7 @@ use Rattle.devices.specs.declared.device.Device as device
 use Rattle.parish.specs.Converting.{Converts, set_of}
 use Rattle.parish.specs.Ends.{Checks, ChecksAll, Normalises, Shows}
 use Rattle.parish.specs.Lists.{find_task, list_task, review_task}
+use Rattle.parish.specs.Reporting.{ImportsReported}
 use Rattle.parish.specs.Rooms.{IsRoomOf, IsSheetOf}
 use Rattle.parish.specs.Rows.{apply_task}
 use Rattle.parish.specs.Tables.{entering_task, table_task}
@@ -80,7 +83,7 @@ tells (Convert from) = true
 tells (EnterTable file source form token) = true
 tells (ExportPlain file) = true
 tells (ExportPublicPlain file today) = true
-tells (Import file token progress) = progress
+tells (Import file token progress report) = progress || is_some report
 tells _ = false
 
 module _ {D S : Type 0} {g : disk.Ghosts D} (image : Image) (left : Left S D g) where
@@ -130,6 +133,13 @@ module _ {D S R W F : Type 0} {g : disk.Ghosts D} (reader : read.Ghosts R) (read
   DoesUnder word t = (Finished (IsNoToken word) × IsUnread × IsUnwritten × OpensNothing)
       ⊎ (IsToken word × DoesTask t)
 
+  -- the same of an import, whose report is written first if one is asked for
+  abbrev pub DoesImport : Bool → List ℕ → Bool → Type 0
+  DoesImport false word progress = DoesUnder word (task.Import word progress)
+  DoesImport true word progress = (Finished (IsNoToken word) × IsUnread × IsUnwritten × OpensNothing)
+      ⊎ (IsToken word
+      × ImportsReported reader reads writer writes faulter fails image status x y left room word progress)
+
   -- ---- texts that are asked for
   abbrev pub Prints : List ℕ → Type 0
   Prints text = Finished (Shows text (writer.contents x.output) (writer.contents y.output) HasWriteFailed)
@@ -151,7 +161,7 @@ module _ {D S R W F : Type 0} {g : disk.Ghosts D} (reader : read.Ghosts R) (read
   Does (Entries file source token) = DoesUnder token.now (task.Entries token.now source)
   Does (EnterTable file source form token) = DoesUnder token.now (entering_task token.now source form)
   Does (CheckTable file source form) = DoesTask (table_task source form)
-  Does (Import file token progress) = DoesUnder token.now (task.Import token.now progress)
+  Does (Import file token progress report) = DoesImport (is_some report) token.now progress
   Does (Export file) = DoesTask task.Export
   Does (ExportPublic file today) = DoesTask (task.ExportPublic today)
   Does (ExportPlain file) = DoesTask task.ExportPlain

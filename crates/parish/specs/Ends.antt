@@ -14,12 +14,13 @@ use Rattle.std.specs.Prelude.{
   IfErr,
   OnOk,
   codes,
+  is_some,
   true,
 }
 use Rattle.std.specs.Fmt.{decimal}
 use Rattle.std.specs.Io.KnownBytes.{Appends, Keeps}
 use Rattle.clap.specs.Words.{subcommand_of}
-use Rattle.command_line.specs.Asking.{IsTaken, command_named, is_checked, is_plain, is_table, is_told}
+use Rattle.command_line.specs.Asking.{IsTaken, command_named, given_in, is_checked, is_plain, is_table, is_told}
 use Rattle.command_line.specs.Commands.{program}
 use Rattle.devices.specs.Devices.{AppendsBeginning}
 use Rattle.archive_input.specs.Faults.{refusal_of}
@@ -44,6 +45,11 @@ AreOf words name = IsTaken words × (command_named words ≡ Some name)
 -- the words are those of an import that says how far it is
 abbrev pub AreOfToldImport : List (List ℕ) → Type 0
 AreOfToldImport words = AreOf words (codes "import") × (is_told (subcommand_of program words) ≡ true)
+
+-- the words are those of an import with a report
+abbrev pub AreOfReportedImport : List (List ℕ) → Type 0
+AreOfReportedImport words = AreOf words (codes "import")
+    × (is_some (given_in (subcommand_of program words) (codes "report")) ≡ true)
 
 -- the words are those of a table that is entered
 abbrev pub AreOfEnteredTable : List (List ℕ) → Type 0

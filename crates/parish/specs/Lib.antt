@@ -2,6 +2,7 @@ pub mod Converting
 pub mod Doing
 pub mod Ends
 pub mod Lists
+pub mod Reporting
 pub mod Rooms
 pub mod Rows
 pub mod Runs

@@ -1,10 +1,10 @@
 //! The commands on the archive in a file.
 
-ghost use Rattle.std.specs.Prelude.{◌≡◌, ◌⊎◌, IfErr, IfOk, Option};
+ghost use Rattle.std.specs.Prelude.{◌≡◌, ◌⊎◌, IfErr, IfOk, Option, is_some};
 ghost use Rattle.sqlite_wal.specs.Files.{image_at};
 ghost use Rattle.archive_state.specs.Content.{Content};
 ghost use Rattle.archive_runs.specs.Tasks.{EndsOnFile};
-ghost use Rattle.parish.specs.Doing.{DoesTask, DoesUnder, Makes};
+ghost use Rattle.parish.specs.Doing.{DoesImport, DoesTask, DoesUnder, Makes};
 ghost use Rattle.parish.specs.Rooms.{IsRoomOf};
 ghost use Rattle.parish.specs.Tables.{entering_task};
 ghost use Rattle.receipts.specs.Tokens.{IsToken};
@@ -12,6 +12,7 @@ ghost use Rattle.record_text.specs.declared.refusal.RefusalKind.TheVariants.{Bad
 ghost use Rattle.tasks.specs.Status.{Finishes, Outcome};
 ghost use Rattle.tasks.specs.declared.task.Task.TheVariants as task;
 
+use crate::reporting::take_in_reported;
 use crate::tables::entering_task;
 use crate::visits::{Visits, room_of};
 use archive_files::{Left, LeftFile, Openable, init};
@@ -125,32 +126,34 @@ pub(crate) fn enter_table<S: Openable, R: Read + Device, W: Write + Device, F: F
     }
 }
 
-/// `import`: takes in the file of the input, under a token. 93: the word is no token; no file is opened.
+/// `import`: takes in the file of the input, under a token, after a report if one is asked for. 93: the word is no
+/// token; no file is opened or made.
 pub(crate) fn take_in<S: Openable, R: Read + Device, W: Write + Device, F: FaultStream>(
     rt: &HostRuntime,
     file: &str,
     token: &str,
     progress: bool,
+    report: Option<&str>,
     start: S,
     input: &mut R,
     output: &mut W,
     faults: &mut F,
 ) -> Ended<S>
-    ensures { DoesUnder R.Read R.Device W.Write W.Device F.Write F.Device (image_at S.Start) result.0
+    ensures { DoesImport R.Read R.Device W.Write W.Device F.Write F.Device (image_at S.Start) result.0
         (record { input = input.old; output = output.old; faults = faults.old })
-        (record { input = input.new; output = output.new; faults = faults.new }) result.1 result.2 token.now
-        (task.Import token.now progress) }
+        (record { input = input.new; output = output.new; faults = faults.new }) result.1 result.2
+        (is_some report.entry) token.now progress }
 {
     match token_given(rt.alloc(), token) {
-        Ok(token) => do_task(
-            rt,
-            file,
-            Task::Import { token, progress },
-            start,
-            input,
-            output,
-            faults,
-        ),
+        Ok(token) => match report {
+            None => {
+                let task = Task::Import { token, progress };
+                do_task(rt, file, task, start, input, output, faults)
+            }
+            Some(path) => take_in_reported(
+                rt, file, token, progress, path, start, input, output, faults,
+            ),
+        },
         Err(kind) => (
             status_of(Err(placeless(kind)), faults),
             Left::Untouched(start),

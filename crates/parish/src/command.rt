@@ -26,6 +26,7 @@ ghost use Rattle.parish.specs.Ends.{
   AreOf,
   AreOfEnteredTable,
   AreOfPlainExport,
+  AreOfReportedImport,
   AreOfToldImport,
   Shows,
   not_utf8_text,
@@ -63,12 +64,13 @@ const WORDS_REFUSED: u8 = 2;
 /// serves the room then.
 ///
 /// Results go to `output`, a refusal goes to `faults` as one line, and so does what is wrong with a row of `apply` that
-/// is refused, what `audit` finds wrong, with `--progress` how far an import is, what `convert` did, what an export
-/// with `--plain` leaves out, and how many dates of a table that is entered are only words. Where `faults` fails too,
-/// only the status says so. Where the words are refused nothing is read, and nothing written elsewhere: what is not
-/// taken is answered on `output` only where it asks for help or for the version. Words that are taken are never
-/// refused: what they name is done, with 0, or 1 and a reason. Of each archive that the file held nothing is lost,
-/// however much was seen of the output and of the end, as soon as the file is closed, or given up in a stop.
+/// is refused, what `audit` finds wrong, with `--progress` how far an import is, why one with `--report` has none, what
+/// `convert` did, what an export with `--plain` leaves out, and how many dates of a table that is entered are only
+/// words. Where `faults` fails too, only the status says so. Where the words are refused nothing is read, and nothing
+/// written elsewhere: what is not taken is answered on `output` only where it asks for help or for the version. Words
+/// that are taken are never refused: what they name is done, with 0, or 1 and a reason. Of each archive that the file
+/// held nothing is lost, however much was seen of the output and of the end, as soon as the file is closed, or given up
+/// in a stop.
 pub fn command<S: Openable, R: Read + Device, W: Write + Device, F: FaultStream>(
     rt: &HostRuntime,
     words: &[String],
@@ -81,6 +83,7 @@ pub fn command<S: Openable, R: Read + Device, W: Write + Device, F: FaultStream>
     ensures done { result.0 ≡ 0 → ¬ (AreOf (map string_bytes words.now) (codes "apply"))
         → ¬ (AreOf (map string_bytes words.now) (codes "convert"))
         → ¬ (AreOfToldImport (map string_bytes words.now))
+        → ¬ (AreOfReportedImport (map string_bytes words.now))
         → ¬ (AreOfPlainExport (map string_bytes words.now))
         → ¬ (AreOfEnteredTable (map string_bytes words.now)) → faults.new ≡ faults.old }
     ensures words { result.0 ≡ 2 → (input.new ≡ input.old) × (output.new ≡ output.old) × IsUntouched result.1
@@ -175,7 +178,10 @@ fn work<S: Openable, R: Read + Device, W: Write + Device, F: FaultStream>(
             file,
             token,
             progress,
-        } => take_in(rt, file, token, progress, start, input, output, faults),
+            report,
+        } => take_in(
+            rt, file, token, progress, report, start, input, output, faults,
+        ),
         Asked::Export { file } => do_task(rt, file, Task::Export, start, input, output, faults),
         Asked::ExportPublic { file, today } => {
             let task = Task::ExportPublic { today };

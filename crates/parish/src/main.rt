@@ -15,6 +15,7 @@ mod converting;
 mod files;
 mod laws;
 mod lists;
+mod reporting;
 mod running;
 mod tables;
 mod visits;

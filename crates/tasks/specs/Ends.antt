@@ -13,7 +13,6 @@ use Rattle.std.specs.Prelude.{
   List,
   Option,
   None,
-  Some,
   Result,
   Ok,
   Err,

@@ -5,6 +5,7 @@ pub mod Faults
 pub mod Hiding
 pub mod Moments
 pub mod Parts
+pub mod Reporting
 pub mod Status
 pub mod Stopping
 pub mod Tables

@@ -17,6 +17,7 @@ mod libraries;
 mod perform;
 mod plain_exporting;
 mod progress;
+mod reporting;
 mod status;
 mod stopping;
 mod tabling;
@@ -24,5 +25,6 @@ mod task;
 
 pub use faults::FaultStream;
 pub use perform::perform_task;
+pub use reporting::import_reported;
 pub use status::{placeless, plain, status_of};
 pub use task::{TableForm, Task};

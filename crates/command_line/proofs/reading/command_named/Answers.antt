@@ -15,4 +15,5 @@ returns-in-import-clause-words c = (
   c.word_of-in-import.ensures,
   c.word_of-in-import-2.ensures,
   rw (c.is_yes-in-import.ensures, c.word_of-in-import-3.ensures) refl,
+  c.given_word.ensures,
 )

@@ -1,4 +1,3 @@
-use Rattle.std.proofs.Common.{◌≡◌}
 use Rattle.parish.specs.Ends.{not_utf8_text}
 use Rattle.parish.proofs.command.refuse_command_line.Goals as goal
 

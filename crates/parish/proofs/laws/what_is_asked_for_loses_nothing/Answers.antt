@@ -13,6 +13,8 @@ returns g c = record {
       seen unseen ended ends s as_seen finds)
       (λ t is same one. c.a_task_on_a_file_loses_nothing.ensures.refused image after t x y status left bytes seen
       unseen ended is same one s as_seen finds)
+      (λ token progress ends. c.a_task_on_a_file_loses_nothing.ensures.beside image after token progress x y status left
+      bytes seen unseen ended ends s as_seen finds)
       (λ society is. c.a_run_without_a_task_loses_nothing.ensures.kept image after society left bytes seen ended is
       finds)
       (λ society made. c.a_run_without_a_task_loses_nothing.ensures.begun image after society left made finds)

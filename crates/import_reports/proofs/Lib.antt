@@ -1,0 +1,2 @@
+mod Foreseen
+mod Written
