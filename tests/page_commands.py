@@ -11,7 +11,7 @@ from archives import lines
 from ends import refused_as_no_archive
 from failing import compiled, failing
 from harness import Case, Outcome, Tools, demand, expect, named, refused, run, written
-from lists import Listed
+from lists import NO_NUMBERS, NO_REFERENCES, Listed
 
 # Rows of a new archive, which are its records 1 to 5.
 ROWS = (
@@ -101,7 +101,10 @@ class Checked(Listed):
         return run(self.parish, words, given, **how)
 
     def entries(self, rows, token="page-8"):
-        return run(self.parish, ("entries", self.file, "--source", "3", "--token", token), lines(rows))
+        return self.batch(lines(rows), "3", token)
+
+    def batch(self, rows, source, token="batch"):
+        return run(self.parish, ("entries", self.file, "--source", source, "--token", token), rows)
 
 
 def page(*rows):
@@ -319,6 +322,63 @@ def not_entered(tools):
         expect(at.enter(page(good), token="spoilt"), refused(40))
 
 
+def sources_by_token(tools):
+    """The source given by `@` and a token is the first number of the answer stored for it before; then the page, or the
+    rows, are those of the number."""
+    given = page("BURIAL,8,1,,,,Ann")
+    rows = lines(("BURIAL,9,1,,,,buried,Ann",))
+    made, batch = written(b"made 1 entries, first 6\n"), written(b"made 1 entries, first 7\n")
+    with Checked(tools) as at, Checked(tools) as by_number:
+        at.with_rows(ROWS)
+        by_number.with_rows(ROWS)
+        expect(at.check(given, source="@c"), found(1, ()))
+        for source in ("@c", "3", "@c"):
+            expect(at.enter(given, source=source), made)
+        for source in ("@c", "3", "@c"):
+            expect(at.batch(rows, source), batch)
+        expect(by_number.enter(given), made)
+        expect(by_number.batch(rows, "3"), batch)
+        demand(at.tables() == by_number.tables(), "the tables are not those of the number")
+        expect(at.check(given, source="@c"), found(1, ["row 2: 60 DuplicateEntry: BURIAL 8 1"]))
+        expect(at.batch(rows, "@c", token="again"), refused_at(60, 1))
+        new = page('BURIAL,8,2,,"Hill, Kent",,Eva')
+        expect(at.check(new, "--make-places", source="@c"), found(1, ["row 2: doubt: Place: new place: Hill, Kent"]))
+        expect(at.enter(new, "--make-places", source="@c", token="hill"), Outcome(
+            b"made 1 entries, first 9\n", b"place 8 is new: Hill, Kent\n", 0))
+        expect(at.enter(new, source="@page-8", token="other"), refused(51))
+        expect(at.batch(rows, "@page-8", token="other"), refused(51))
+        expect(at.check(new, source="@page-8"), refused(51))
+
+
+def no_sources_by_token(tools):
+    """50 without a row where nothing is stored for the token, or an answer that made nothing: after the form of the
+    rows, and before their places. A word that is no number and no token is refused before the archive is opened."""
+    good, wrong = "BURIAL,8,1,,,,Ann", "BURIAL,8,1a,,,,Ann"
+    with Checked(tools) as at:
+        before = at.with_rows((*ROWS, "n,sex,5,M")).tables()
+        for source in ("@none", "@n", "@C", "@page-8"):
+            expect(at.check(page(good), source=source), refused(50))
+            expect(at.enter(page(good), source=source), refused(50))
+            expect(at.enter(page(good), "--make-places", source=source), refused(50))
+            expect(at.batch(b"BURIAL,8,1,,,,buried,Ann\n", source), refused(50))
+            expect(at.batch(b"", source), refused(50))
+            expect(at.enter(page("BURIAL,8,1,,@none,,Ann"), source=source), refused(50))
+            expect(at.batch(b"BURIAL,8,1,,@none,,buried,Ann\n", source), refused(50))
+            expect(at.check(page(wrong), source=source), refused(50))
+            expect(at.enter(page(wrong), source=source), refused_at(90, 2, "row 2: 90 BadRow: Item: 1a\n"))
+            expect(at.batch(b"BURIAL,8,1a,,,,buried,Ann\n", source), refused_at(90, 1))
+            for given, text in UNREAD:
+                for got in (at.check(given, source=source), at.enter(given, source=source)):
+                    expect(got, Outcome(b"", f"parish: {text}".encode(), 1))
+        for source in (*NO_NUMBERS, *NO_REFERENCES):
+            for got in (
+                at.check(page(good), source=source), at.enter(page(good), source=source),
+                at.batch(b"BURIAL,8,1,,,,buried,Ann\n", source),
+            ):
+                demand(got.status == 2 and got.out == b"", f"{source!r}: {got}")
+        demand(at.tables() == before, "the tables changed")
+
+
 # Rows whose places are to be made, of an archive of ROWS, and of each the doubts without `row 2: doubt: Place: `.
 NEW_PLACES = (
     ('BURIAL,8,1,,"Mill Lane, Ashby, Kent",,Ann', ("new place: Mill Lane, Ashby, Kent",)),
@@ -454,6 +514,8 @@ TESTS = (
     then_entered,
     entered,
     not_entered,
+    sources_by_token,
+    no_sources_by_token,
     new_places,
     places_made,
     no_places_made,

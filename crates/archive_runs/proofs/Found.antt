@@ -38,12 +38,21 @@ use Rattle.archive_runs.specs.Tasks.{PerformsOn}
 use Rattle.archive_core.specs.Machine.{Done, Runs, import_of}
 use Rattle.archive_core.specs.declared.request.Request.{Request}
 use Rattle.archive_output.specs.Exporting.{export_text}
-use Rattle.archive_output.specs.Reading.{OnOpen}
+use Rattle.archive_output.specs.Reading.{OnOpen, OnlyReads}
 use Rattle.archive_tables.specs.Texts.{list_of, shown_text}
 use Rattle.archive_state.specs.Content.{Content}
-use Rattle.archive_tables.specs.RowBatches.{Enters, IsEntered as IsBatch, batch_request, numbers_on}
-use Rattle.archive_tables.specs.Entering.{EntersEntries, EntersPage, IsEntered, page_request}
-use Rattle.archive_tables.specs.Making.{EntersPlaced, IsTaken, IsUnread, IsUntaken}
+use Rattle.archive_tables.specs.RowBatches.{
+  Enters,
+  EntersOf as EntersBatchOf,
+  HasNoSource,
+  IsEntered as IsBatch,
+  batch_request,
+  numbers_on,
+}
+use Rattle.archive_tables.specs.Entering.{EntersOf, EntersPage, IsEntered, page_request}
+use Rattle.archive_tables.specs.Making.{EntersLacking, EntersPlaced, IsTaken, IsUnread, IsUntaken}
+use Rattle.archive_tables.specs.Sources.{BySource, HadNumber}
+use Rattle.archive_tables.proofs.Entered.{true_is_not}
 use Rattle.archive_tables.specs.declared.making.MadePlace.{MadePlace}
 use Rattle.archive_tables.specs.declared.entering.PageEnd.TheVariants.{Entered, Unread}
 use Rattle.page_batches.specs.Batches.{rows_on, unplaced}
@@ -66,6 +75,10 @@ use Rattle.gedcom_tree.specs.Forest.{Item}
 use Rattle.import_definitions.specs.Report.{report}
 use Rattle.receipts.specs.declared.answer.Answer.{Answer}
 use Rattle.receipts.specs.declared.report.ReportLine.{ReportLine}
+use Rattle.row_references.specs.References.{kept_number}
+use Rattle.row_references.specs.Words.{number_in}
+use Rattle.row_references.specs.declared.words.NumberWord.{NumberWord}
+use Rattle.row_references.specs.declared.words.NumberWord.TheVariants.{Number, Reference}
 use Rattle.record_text.specs.Text.{IsText}
 use Rattle.record_text.specs.declared.refusal.Refusal.{Refusal}
 use Rattle.record_text.specs.declared.refusal.RefusalKind.{RefusalKind}
@@ -78,6 +91,7 @@ use Rattle.store.specs.Archives.{IsArchive}
 use Rattle.store.specs.Earlier.{HoldsArchive}
 use Rattle.store.specs.Histories.{Outcome as Answered, in_doubt}
 use Rattle.store.specs.Lives.{Counts, IsRefusedOver}
+use Rattle.store.specs.Shut.{is_shut}
 use Rattle.store.specs.declared.archive.Archive.{Archive}
 use Rattle.store.proofs.Histories.{counted}
 use Rattle.store.proofs.Viewed.{seen_of}
@@ -258,6 +272,30 @@ module _ {R W F : Type 0} (reader : read.Ghosts R) (reads : device.Ghosts R) (wr
         let found = all.1 left may in
         (all.0, subst (λ (k : Content). IsArchive society k left) found.1 found.2)
 
+    -- it was only looked at
+    only_looked : OnlyReads over_files taken new → IsArchive society c left
+    only_looked reads =
+        let stays = reads.stays clean in
+        let had_it = (held.has stays.clean society c tables holds had).0 in
+        (had_it.0, stays.crash had_it.0 c had_it.1 (seen_of had_it.2) left may, had_it.2)
+
+    -- the number of a token that was looked for is that of the archive that the file held
+    number_held : (token : List ℕ) (n : ℕ) → HadNumber over_files taken new token n → kept_number c token ≡ Some n
+    number_held token n had_number =
+        let at = had_number clean in
+        let had_it = (held.has at.0 society c tables holds had).0 in
+        at.1 had_it.0 c had_it.1 (seen_of had_it.2)
+
+    -- of a source whose number a word gives
+    by_source : (t : Task) (word : NumberWord) (P : ℕ → Type 0) (Refused : RefusalKind → Type 0)
+        → BySource over_files taken new word P Refused
+        → ((n : ℕ) → number_in c word ≡ Some n → P n → FoundIn t society c left)
+        → ((why : RefusalKind) → OnlyReads over_files taken new → Refused why → FoundIn t society c left)
+        → FoundIn t society c left
+    by_source t (Number n) P Refused p all none = all n refl p
+    by_source t (Reference token) P Refused (inl p) all none = all p.0 (number_held token p.0 p.1) p.2
+    by_source t (Reference token) P Refused (inr lacks) all none = none lacks.0 lacks.1.reads lacks.2
+
     -- ---- rows of requests
     -- the numbers of the archive that was taken up are those of the archive that the file held
     numbered : (rows : List Row) (served : List Served) → PerformsAll over_files taken (calls_of served) new
@@ -367,99 +405,100 @@ module _ {R W F : Type 0} (reader : read.Ghosts R) (reads : device.Ghosts R) (wr
             (k.1.0, k.0, acts k.1.0 (kept_or_not k.1.0 none never k.1.1), k.1.2, inl k.2)
 
     -- ---- a batch of entries
-    module _ (law : ArePerformed g) (token : List ℕ) (source : ℕ) where
-      abbrev Entering : Task
-      Entering = task.Entries token source
+    module _ (law : ArePerformed g) (token : List ℕ) (word : NumberWord) (source : ℕ)
+        (given : number_in c word ≡ Some source)
+      where
+        abbrev Entering : Task
+        Entering = task.Entries token word
 
-      acts_batch : (rows : List Row) (entries : List EntryRow)
-          → ReadsBatch (numbers_on c rows) (row_bytes (Some input)) rows entries → (kept : List Done)
-          → KeepsNone (run Entering) kept
-          ⊎ KeepsOne (run Entering) (batch_request token source entries) made_text kept
-          → Acts c (Some Entering) (run Entering) kept
-      acts_batch rows entries reads_them kept (inl none) = inl none
-      acts_batch rows entries reads_them kept (inr one) = inr (rows, entries, reads_them, one)
+        acts_batch : (rows : List Row) (entries : List EntryRow)
+            → ReadsBatch (numbers_on c rows) (row_bytes (Some input)) rows entries → (kept : List Done)
+            → KeepsNone (run Entering) kept
+            ⊎ KeepsOne (run Entering) (batch_request token source entries) made_text kept
+            → Acts c (Some Entering) (run Entering) kept
+        acts_batch rows entries reads_them kept (inl none) = inl none
+        acts_batch rows entries reads_them kept (inr one) = inr (source, given, (rows, entries, reads_them, one))
 
-      -- the archive was looked at, with what it held
-      batch_held : (o : Answered)
-          → (e : IsBatch over_files token source (row_bytes (reader.remaining x.input)) taken o new)
-          → ReadsBatch (numbers_on c e.rows) (row_bytes (Some input)) e.rows e.entries
-      batch_held o e =
-          let was_clean = (e.done.0 clean held.ready).clean in
-          let had_it = (held.has was_clean society c tables holds had).0 in
-          let same = e.right held.ready clean had_it.0 c had_it.1 (seen_of had_it.2) in
-          subst (λ (ns : List (Option ℕ)). ReadsBatch ns (row_bytes (Some input)) e.rows e.entries) same
-          (subst (λ bytes. ReadsBatch e.numbers (row_bytes bytes) e.rows e.entries) s.reads (e.read held.ready))
+        -- the archive was looked at, with what it held
+        batch_held : (o : Answered)
+            → (e : IsBatch over_files token source (row_bytes (reader.remaining x.input)) taken o new)
+            → ReadsBatch (numbers_on c e.rows) (row_bytes (Some input)) e.rows e.entries
+        batch_held o e =
+            let was_clean = (e.done.0 clean held.ready).clean in
+            let had_it = (held.has was_clean society c tables holds had).0 in
+            let same = e.right held.ready clean had_it.0 c had_it.1 (seen_of had_it.2) in
+            subst (λ (ns : List (Option ℕ)). ReadsBatch ns (row_bytes (Some input)) e.rows e.entries) same
+            (subst (λ bytes. ReadsBatch e.numbers (row_bytes bytes) e.rows e.entries) s.reads (e.read held.ready))
 
-      batch_told : (answer : Answer)
-          → Enters over_files token source (row_bytes (reader.remaining x.input)) taken (Ok answer) new
-          → Tells (run Entering) (made_text answer) → FoundIn Entering society c left
-      batch_told answer (inl e) tells_it =
-          one_told law Entering (batch_request token source e.entries) made_text
-          (acts_batch e.rows e.entries (batch_held (Ok answer) e)) answer e.done.0 tells_it
-      batch_told answer (inr (inl r)) tells_it = absurd (answer_is_no_refusal answer r.why r.is)
-      batch_told answer (inr (inr none)) tells_it = absurd (answer_is_no_refusal answer _ none.0)
+        batch_told : (answer : Answer)
+            → EntersBatchOf over_files token source (row_bytes (reader.remaining x.input)) taken (Ok answer) new
+            → Tells (run Entering) (made_text answer) → FoundIn Entering society c left
+        batch_told answer (inl e) tells_it =
+            one_told law Entering (batch_request token source e.entries) made_text
+            (acts_batch e.rows e.entries (batch_held (Ok answer) e)) answer e.done.0 tells_it
+        batch_told answer (inr (inl r)) tells_it = absurd (answer_is_no_refusal answer r.why r.is)
+        batch_told answer (inr (inr none)) tells_it = absurd (answer_is_no_refusal answer _ none.0)
 
-      batch_untold : (e : Refusal)
-          → Enters over_files token source (row_bytes (reader.remaining x.input)) taken (Err e) new
-          → seen ≡ [] → ¬ (HasDone ended) → FoundIn Entering society c left
-      batch_untold why (inl e) none never =
-          one_untold law Entering (batch_request token source e.entries) made_text
-          (acts_batch e.rows e.entries (batch_held (Err why) e)) why e.done.0 none never
-      batch_untold why (inr (inl r)) none never =
-          let stays = r.reads.stays clean in
-          let had_it = (held.has stays.clean society c tables holds had).0 in
-          keeps_none Entering society c left (acts_none Entering c none never)
-          (inl (had_it.0, stays.crash had_it.0 c had_it.1 (seen_of had_it.2) left may, had_it.2))
-      batch_untold why (inr (inr wants)) none never =
-          keeps_none Entering society c left (acts_none Entering c none never) (inl (same_archive wants.1))
+        batch_untold : (e : Refusal)
+            → EntersBatchOf over_files token source (row_bytes (reader.remaining x.input)) taken (Err e) new
+            → seen ≡ [] → ¬ (HasDone ended) → FoundIn Entering society c left
+        batch_untold why (inl e) none never =
+            one_untold law Entering (batch_request token source e.entries) made_text
+            (acts_batch e.rows e.entries (batch_held (Err why) e)) why e.done.0 none never
+        batch_untold why (inr (inl r)) none never =
+            keeps_none Entering society c left (acts_none Entering c none never) (inl (only_looked r.reads))
+        batch_untold why (inr (inr wants)) none never =
+            keeps_none Entering society c left (acts_none Entering c none never) (inl (same_archive wants.1))
 
     -- ---- a page
-    module _ (law : ArePerformed g) (token : List ℕ) (source : ℕ) (form : TableForm) (plain : form.makes ≡ false) where
-      abbrev Paging : Task
-      Paging = task.EnterTable token source form
+    module _ (law : ArePerformed g) (token : List ℕ) (word : NumberWord) (source : ℕ)
+        (given : number_in c word ≡ Some source) (form : TableForm) (plain : form.makes ≡ false)
+      where
+        abbrev Paging : Task
+        Paging = task.EnterTable token word form
 
-      module _ (entries : List PageEntry)
-          (reads_them : page_of form.order (page_text form.set input) ≡ Ok entries) where
-        acts_page : (rows : List EntryRow) → rows_on c token source entries ≡ Ok rows → (kept : List Done)
-            → KeepsNone (run Paging) kept
-            ⊎ KeepsOne (run Paging) (page_request token source entries rows) made_text kept
-            → Acts c (Some Paging) (run Paging) kept
-        acts_page rows are kept (inl none) = inl none
-        acts_page rows are kept (inr one) = inr
-            (subst (λ (makes : Bool). KeepsTable makes c token source form (run Paging) kept) (sym plain)
-            (entries, reads_them, (rows, are, one)))
+        module _ (entries : List PageEntry)
+            (reads_them : page_of form.order (page_text form.set input) ≡ Ok entries) where
+          acts_page : (rows : List EntryRow) → rows_on c token source entries ≡ Ok rows → (kept : List Done)
+              → KeepsNone (run Paging) kept
+              ⊎ KeepsOne (run Paging) (page_request token source entries rows) made_text kept
+              → Acts c (Some Paging) (run Paging) kept
+          acts_page rows are kept (inl none) = inl none
+          acts_page rows are kept (inr one) = inr (
+            source,
+            given,
+            subst (λ (makes : Bool). KeepsTable makes c token source form (run Paging) kept) (sym plain)
+                (entries, reads_them, (rows, are, one)),
+          )
 
-        -- the archive was read, with what it held
-        rows_held : (r : Result Answer BatchRefusal)
-            → (e : IsEntered over_files token source entries taken r new) → rows_on c token source entries ≡ Ok e.rows
-        rows_held r e =
-            let was_clean = (e.performed clean held.ready).clean in
-            let had_it = (held.has was_clean society c tables holds had).0 in
-            e.right clean had_it.0 c had_it.1 (seen_of had_it.2)
+          -- the archive was read, with what it held
+          rows_held : (r : Result Answer BatchRefusal)
+              → (e : IsEntered over_files token source entries taken r new) → rows_on c token source entries ≡ Ok e.rows
+          rows_held r e =
+              let was_clean = (e.performed clean held.ready).clean in
+              let had_it = (held.has was_clean society c tables holds had).0 in
+              e.right clean had_it.0 c had_it.1 (seen_of had_it.2)
 
-        page_told : (answer : Answer) → EntersEntries over_files token source entries taken (Ok answer) new
-            → Tells (run Paging) (made_text answer) → FoundIn Paging society c left
-        page_told answer (inl e) tells_it =
-            let r = page_request token source entries e.rows in
-            let all : PerformsAll over_files taken ((r, Ok answer) ∷ []) new =
-            subst (λ (o : Answered). PerformsAll over_files taken ((r, o) ∷ []) new)
-            (was_answered (numbers_of entries) answer e.outcome e.is) e.performed in
-            one_told law Paging r made_text (acts_page e.rows (rows_held (Ok answer) e)) answer all tells_it
-        page_told answer (inr refused) tells_it = absurd (ok_is_no_err answer refused.why refused.is)
+          page_told : (answer : Answer) → EntersOf over_files token source entries taken (Ok answer) new
+              → Tells (run Paging) (made_text answer) → FoundIn Paging society c left
+          page_told answer (inl e) tells_it =
+              let r = page_request token source entries e.rows in
+              let all : PerformsAll over_files taken ((r, Ok answer) ∷ []) new =
+              subst (λ (o : Answered). PerformsAll over_files taken ((r, o) ∷ []) new)
+              (was_answered (numbers_of entries) answer e.outcome e.is) e.performed in
+              one_told law Paging r made_text (acts_page e.rows (rows_held (Ok answer) e)) answer all tells_it
+          page_told answer (inr refused) tells_it = absurd (ok_is_no_err answer refused.why refused.is)
 
-        page_untold : (why : BatchRefusal) → EntersEntries over_files token source entries taken (Err why) new
-            → seen ≡ [] → ¬ (HasDone ended) → FoundIn Paging society c left
-        page_untold why (inl e) none never =
-            let r = page_request token source entries e.rows in
-            let was = was_refused (numbers_of entries) why e.outcome e.is in
-            let all : PerformsAll over_files taken ((r, Err was.0) ∷ []) new =
-            subst (λ (o : Answered). PerformsAll over_files taken ((r, o) ∷ []) new) was.1 e.performed in
-            one_untold law Paging r made_text (acts_page e.rows (rows_held (Err why) e)) was.0 all none never
-        page_untold why (inr refused) none never =
-            let stays = refused.reads.stays clean in
-            let had_it = (held.has stays.clean society c tables holds had).0 in
-            keeps_none Paging society c left (acts_none Paging c none never)
-            (inl (had_it.0, stays.crash had_it.0 c had_it.1 (seen_of had_it.2) left may, had_it.2))
+          page_untold : (why : BatchRefusal) → EntersOf over_files token source entries taken (Err why) new
+              → seen ≡ [] → ¬ (HasDone ended) → FoundIn Paging society c left
+          page_untold why (inl e) none never =
+              let r = page_request token source entries e.rows in
+              let was = was_refused (numbers_of entries) why e.outcome e.is in
+              let all : PerformsAll over_files taken ((r, Err was.0) ∷ []) new =
+              subst (λ (o : Answered). PerformsAll over_files taken ((r, o) ∷ []) new) was.1 e.performed in
+              one_untold law Paging r made_text (acts_page e.rows (rows_held (Err why) e)) was.0 all none never
+          page_untold why (inr refused) none never =
+              keeps_none Paging society c left (acts_none Paging c none never) (inl (only_looked refused.reads))
 
     -- ---- a file
     module _ (law : ArePerformed g) (token : List ℕ) (progress : Bool) where
@@ -564,22 +603,51 @@ module _ {R W F : Type 0} (reader : read.Ghosts R) (reads : device.Ghosts R) (wr
           (λ kept k same. until_refused kept k part.0.0.served same (up.0, up.1, up.2, up.3, part.1)
           (λ done. absurd (never done)))
 
-      enter_found : ArePerformed g → (token : List ℕ) (source : ℕ) (o : Outcome)
-          → EntersBatch over_files reader reads writer writes faulter fails Before After token source o
+      -- of a batch of a source whose number a word gives
+      of_batch : (token : List ℕ) (word : NumberWord) (o : Answered)
+          → Enters over_files token word (row_bytes (reader.remaining x.input)) taken o new
+          → ((n : ℕ) → number_in c word ≡ Some n
+          → EntersBatchOf over_files token n (row_bytes (reader.remaining x.input)) taken o new
+          → FoundIn (task.Entries token word) society c left)
+          → ((why : RefusalKind) → OnlyReads over_files taken new
+          → HasNoSource (row_bytes (reader.remaining x.input)) o why → FoundIn (task.Entries token word) society c left)
+          → FoundIn (task.Entries token word) society c left
+      of_batch token word o (inl d) all none = by_source (task.Entries token word) word
+          (λ n. EntersBatchOf over_files token n (row_bytes (reader.remaining x.input)) taken o new)
+          (HasNoSource (row_bytes (reader.remaining x.input)) o) d all none
+      of_batch token word o (inr shut) all none = absurd (true_is_not (is_shut taken) held.ready shut.0)
+
+      batch_answered : ArePerformed g → (token : List ℕ) (word : NumberWord) (answer : Answer)
+          → Enters over_files token word (row_bytes (reader.remaining x.input)) taken (Ok answer) new
+          → Tells (run (task.Entries token word)) (made_text answer) → FoundIn (task.Entries token word) society c left
+      batch_answered law token word answer did tells_it = of_batch token word (Ok answer) did
+          (λ n given d. batch_told law token word n given answer d tells_it)
+          (λ why looks lacks. absurd (answer_is_no_refusal answer _ lacks.0))
+
+      batch_refused : ArePerformed g → (token : List ℕ) (word : NumberWord) (e : Refusal)
+          → Enters over_files token word (row_bytes (reader.remaining x.input)) taken (Err e) new
+          → seen ≡ [] → ¬ (HasDone ended) → FoundIn (task.Entries token word) society c left
+      batch_refused law token word e did none never = of_batch token word (Err e) did
+          (λ n given d. batch_untold law token word n given e d none never)
+          (λ why looks lacks. keeps_none (task.Entries token word) society c left
+          (acts_none (task.Entries token word) c none never) (inl (only_looked looks)))
+
+      enter_found : ArePerformed g → (token : List ℕ) (word : NumberWord) (o : Outcome)
+          → EntersBatch over_files reader reads writer writes faulter fails Before After token word o
           → Finishes faulter.contents fails.failed o status between y.faults
-          → FoundIn (task.Entries token source) society c left
-      enter_found law token source (Ok done) did finishes =
+          → FoundIn (task.Entries token word) society c left
+      enter_found law token word (Ok done) did finishes =
           let all = did.entered in
-          batch_told law token source all.0 all.1 (tells (task.Entries token source) (made_text all.0) all.2)
-      enter_found law token source (Err t) did finishes = elim did.refused [
+          batch_answered law token word all.0 all.1 (tells (task.Entries token word) (made_text all.0) all.2)
+      enter_found law token word (Err t) did finishes = elim did.refused [
         | inl none ↦ elim none.0 [
-          | inl batch ↦ batch_untold law token source t.refusal batch (nothing_told none.1) (undone finishes.0)
-          | inr no_batch ↦ keeps_none (task.Entries token source) society c left
-              (acts_none (task.Entries token source) c (nothing_told none.1) (undone finishes.0))
+          | inl batch ↦ batch_refused law token word t.refusal batch (nothing_told none.1) (undone finishes.0)
+          | inr no_batch ↦ keeps_none (task.Entries token word) society c left
+              (acts_none (task.Entries token word) c (nothing_told none.1) (undone finishes.0))
               (inl (same_archive no_batch.0))
         ]
-        | inr part ↦ batch_told law token source part.0 part.3
-            (tells_part (task.Entries token source) (made_text part.0) part.4.written (undone finishes.0))
+        | inr part ↦ batch_answered law token word part.0 part.3
+            (tells_part (task.Entries token word) (made_text part.0) part.4.written (undone finishes.0))
       ]
 
       -- the text of a table is that of the input
@@ -591,9 +659,9 @@ module _ {R W F : Type 0} (reader : read.Ghosts R) (reads : device.Ghosts R) (wr
           (subst (λ (known : Option (List ℕ)). IsTableText form.set known text) s.reads are).0 in
           ap (page_of form.order) (sym same) ∙ is
 
-      module _ (law : ArePerformed g) (token : List ℕ) (source : ℕ) (form : TableForm) where
+      module _ (law : ArePerformed g) (token : List ℕ) (word : NumberWord) (form : TableForm) where
         abbrev Tabling : Task
-        Tabling = task.EnterTable token source form
+        Tabling = task.EnterTable token word form
 
         -- where it is refused nothing was printed
         page_refused : new ≡ taken → y.output ≡ x.output → ¬ (HasDone ended) → FoundIn Tabling society c left
@@ -634,23 +702,31 @@ module _ {R W F : Type 0} (reader : read.Ghosts R) (reads : device.Ghosts R) (wr
 
         -- ---- by whether its places are made
         page_found : form.makes ≡ false → (text : List ℕ) → IsTableText form.set (reader.remaining x.input) text
-            → (r : PageEntering) → EntersPage over_files token source form.order text taken r new
+            → (r : PageEntering) → EntersPage over_files token word form.order text taken r new
             → IsTold (run Tabling) r → FoundIn Tabling society c left
         page_found plain text are (Ok (Entered answer words)) did told =
-            page_told law token source form plain did.0 (page_of_input form text _ are did.1) answer did.2.1 told
+            by_source Tabling word (λ n. EntersOf over_files token n did.0 taken (Ok answer) new)
+            (λ why. Ok answer ≡ Err (unplaced why)) did.2.1
+            (λ n given d. page_told law token word n given form plain did.0 (page_of_input form text _ are did.1)
+            answer d told)
+            (λ why looks lacks. absurd (ok_is_no_err answer _ lacks))
         page_found plain text are (Ok (Unread fault)) did none =
             keeps_none Tabling society c left (inl none) (inl (same_archive did.1))
         page_found plain text are (Err e) (inl want) none =
             keeps_none Tabling society c left (inl none) (inl (same_archive want.1))
         page_found plain text are (Err e) (inr did) none =
-            page_untold law token source form plain did.0 (page_of_input form text _ are did.1) e did.2 none.1 none.2
+            by_source Tabling word (λ n. EntersOf over_files token n did.0 taken (Err e) new)
+            (λ why. Err e ≡ Err (unplaced why)) did.2
+            (λ n given d. page_untold law token word n given form plain did.0 (page_of_input form text _ are did.1) e d
+            none.1 none.2)
+            (λ why looks lacks. keeps_none Tabling society c left (inl none) (inl (only_looked looks)))
 
         module _ (makes : form.makes ≡ true) (made : List MadePlace) (r : PageEntering) (told : IsTold (run Tabling) r)
           where
             none_as : (q : PageEntering) → r ≡ q → IsTold (run Tabling) q
             none_as q is = subst (IsTold (run Tabling)) is told
 
-            unread_found : IsUnread over_files token source form.order (page_text form.set input) taken made r new
+            unread_found : IsUnread over_files token form.order (page_text form.set input) taken made r new
                 → FoundIn Tabling society c left
             unread_found none = keeps_none Tabling society c left
                 (inl (elim none.why [
@@ -658,19 +734,17 @@ module _ {R W F : Type 0} (reader : read.Ghosts R) (reads : device.Ghosts R) (wr
                   | inr bad ↦ none_as (Ok (Unread bad.0)) bad.2
                 ])) (inl (same_archive none.same))
 
-            untaken_found : (entries : List PageEntry)
+            untaken_found : (source : ℕ) (entries : List PageEntry)
                 → IsUntaken over_files token source form.order (page_text form.set input) entries taken made r new
                 → FoundIn Tabling society c left
-            untaken_found entries bad =
-                let stays = bad.reads.stays clean in
-                let had_it = (held.has stays.clean society c tables holds had).0 in
-                keeps_none Tabling society c left (inl (none_as (Err bad.why) bad.is))
-                (inl (had_it.0, stays.crash had_it.0 c had_it.1 (seen_of had_it.2) left may, had_it.2))
+            untaken_found source entries bad =
+                keeps_none Tabling society c left (inl (none_as (Err bad.why) bad.is)) (inl (only_looked bad.reads))
 
-            taken_found : (entries : List PageEntry) → page_of form.order (page_text form.set input) ≡ Ok entries
+            taken_found : (source : ℕ) → number_in c word ≡ Some source → (entries : List PageEntry)
+                → page_of form.order (page_text form.set input) ≡ Ok entries
                 → IsTaken over_files token source form.order (page_text form.set input) entries taken made r new
                 → FoundIn Tabling society c left
-            taken_found entries read did =
+            taken_found source given entries read did =
                 let lacking = λ (was : HasCleanDisk (file_state did.between.conn)).
                 let read_it = did.right was in
                 let had_it = (held.has read_it.0 society c tables holds had).0 in
@@ -680,20 +754,35 @@ module _ {R W F : Type 0} (reader : read.Ghosts R) (reads : device.Ghosts R) (wr
                 may source form (run Tabling) entries read did.paths lacking made r did.entered told in (
                   l.0,
                   l.1,
-                  inr (subst (λ (b : Bool). KeepsTable b c token source form (run Tabling) l.0) (sym makes) l.2),
+                  inr (
+                    source,
+                    given,
+                    subst (λ (b : Bool). KeepsTable b c token source form (run Tabling) l.0) (sym makes) l.2,
+                  ),
                   l.3,
                   inl l.4,
                 )
 
-            placed_found : EntersPlaced over_files token source form.order (page_text form.set input) taken made r new
+            lacking_found : (source : ℕ) → number_in c word ≡ Some source → (entries : List PageEntry)
+                → page_of form.order (page_text form.set input) ≡ Ok entries
+                → EntersLacking over_files token source form.order (page_text form.set input) entries taken made r new
+                → FoundIn Tabling society c left
+            lacking_found source given entries read (inl bad) = untaken_found source entries bad
+            lacking_found source given entries read (inr did) = taken_found source given entries read did
+
+            placed_found : EntersPlaced over_files token word form.order (page_text form.set input) taken made r new
                 → FoundIn Tabling society c left
             placed_found (inl none) = unread_found none
-            placed_found (inr (entries, read, inl bad)) = untaken_found entries bad
-            placed_found (inr (entries, read, inr did)) = taken_found entries read did
+            placed_found (inr (entries, read, did)) = by_source Tabling word
+                (λ n. EntersLacking over_files token n form.order (page_text form.set input) entries taken made r new)
+                (λ why. (made ≡ []) × (r ≡ Err (unplaced why))) did
+                (λ n given d. lacking_found n given entries read d)
+                (λ why looks lacks. keeps_none Tabling society c left (inl (none_as (Err (unplaced why)) lacks.1))
+                (inl (only_looked looks)))
 
         text_found : (makes : Bool) → form.makes ≡ makes → (o : Outcome) (text : List ℕ)
             → IsTableText form.set (reader.remaining x.input) text
-            → EntersBy over_files reader reads writer writes faulter fails Before After makes token source form.order
+            → EntersBy over_files reader reads writer writes faulter fails Before After makes token word form.order
             text o
             → Concludes faulter.contents fails.failed Tabling o status between y.faults
             → FoundIn Tabling society c left
@@ -703,11 +792,11 @@ module _ {R W F : Type 0} (reader : read.Ghosts R) (reads : device.Ghosts R) (wr
             let same : text ≡ page_text form.set input =
             (subst (λ (known : Option (List ℕ)). IsTableText form.set known text) s.reads are).0 in
             placed_found makes did.made did.r (page_said o did.between did.r did.said finishes)
-            (subst (λ (bytes : List ℕ). EntersPlaced over_files token source form.order bytes taken did.made did.r new)
+            (subst (λ (bytes : List ℕ). EntersPlaced over_files token word form.order bytes taken did.made did.r new)
             same did.entered)
 
         table_found : (o : Outcome)
-            → EntersTable over_files reader reads writer writes faulter fails Before After token source form o
+            → EntersTable over_files reader reads writer writes faulter fails Before After token word form o
             → Concludes faulter.contents fails.failed Tabling o status between y.faults
             → FoundIn Tabling society c left
         table_found o (inl none) finishes = page_refused none.3 none.4 (never_done o _ between none.1 finishes)
@@ -824,7 +913,7 @@ module _ {R W F : Type 0} (reader : read.Ghosts R) (reads : device.Ghosts R) (wr
           let had_it = (held.has read.0 society c tables holds had).0 in
           (had_it.0, (read.1 had_it.0 c had_it.1 (seen_of had_it.2)).1 left may, had_it.2)
 
-      table_checked : (source : ℕ) (form : TableForm) (o : Outcome)
+      table_checked : (source : NumberWord) (form : TableForm) (o : Outcome)
           → ChecksTable over_files reader reads writer writes faulter fails Before After source form o
           → IsArchive society c left
       table_checked source form o (inl none) = same_archive none.3

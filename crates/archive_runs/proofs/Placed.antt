@@ -47,7 +47,7 @@ use Rattle.archive_input.specs.Applying.{PerformsAll, Steps}
 use Rattle.archive_output.specs.Reading.{OnlyReads}
 use Rattle.archive_state.specs.Content.{Content}
 use Rattle.archive_tables.specs.Ends.{OnRead}
-use Rattle.archive_tables.specs.Entering.{EntersEntries, EntersPage, page_request}
+use Rattle.archive_tables.specs.Entering.{EntersOf, EntersPage, page_request}
 use Rattle.archive_tables.specs.Making.{
   AsksPlace,
   EntersTried,
@@ -74,6 +74,7 @@ use Rattle.page_entries.specs.Entries.{page_of}
 use Rattle.page_entries.specs.declared.entries.PageEntry.{PageEntry}
 use Rattle.page_texts.specs.Texts.{page_text}
 use Rattle.receipts.specs.declared.answer.Answer.{Answer}
+use Rattle.row_references.specs.declared.words.NumberWord.TheVariants.{Number}
 use Rattle.record_text.specs.declared.refusal.Refusal.{Refusal}
 use Rattle.store.specs.Archives.{HasArchive, IsArchive, LeavesArchive}
 use Rattle.store.specs.Calls.{Performs}
@@ -346,7 +347,7 @@ module _ {D : Type 0} {g : disk.Ghosts D} (image : Image) (taken start : Archive
 
     -- ---- the page
     page_told : (n : ℕ) (mid : At) (r : Reached (take n paths) mid) → length (take n paths) ≡ length paths
-        → (answer : Answer) → EntersEntries over_files token source entries mid (Ok answer) new
+        → (answer : Answer) → EntersOf over_files token source entries mid (Ok answer) new
         → Tells run (made_text answer) → Leaves
     page_told n mid r whole answer (inl e) tells =
         let d : Done = (page_request token source entries e.rows, Ok answer) in
@@ -385,7 +386,7 @@ module _ {D : Type 0} {g : disk.Ghosts D} (image : Image) (taken start : Archive
     )
 
     page_untold : (n : ℕ) (mid : At) (r : Reached (take n paths) mid) → length (take n paths) ≡ length paths
-        → (why : BatchRefusal) → EntersEntries over_files token source entries mid (Err why) new → KeepsNone run []
+        → (why : BatchRefusal) → EntersOf over_files token source entries mid (Err why) new → KeepsNone run []
         → Leaves
     page_untold n mid r whole why (inl e) none =
         let req = page_request token source entries e.rows in
@@ -404,15 +405,15 @@ module _ {D : Type 0} {g : disk.Ghosts D} (image : Image) (taken start : Archive
 
     page_ended : (n : ℕ) (mid : At) (r : Reached (take n paths) mid) → length (take n paths) ≡ length paths
         → (result : Result PageEnd BatchRefusal)
-        → EntersPage over_files token source form.order (page_text form.set run.input) mid result new
+        → EntersPage over_files token (Number source) form.order (page_text form.set run.input) mid result new
         → IsTold run result → Leaves
     page_ended n mid r whole (Ok (Entered answer words)) did told = page_told n mid r whole answer
-        (subst (λ (es : List PageEntry). EntersEntries over_files token source es mid (Ok answer) new)
+        (subst (λ (es : List PageEntry). EntersOf over_files token source es mid (Ok answer) new)
         (same_entries did.0 entries (sym did.1 ∙ read)) did.2.1) told
     page_ended n mid r whole (Ok (Unread fault)) did none = same_more n mid r did.1 none
     page_ended n mid r whole (Err e) (inl want) none = same_more n mid r want.1 none
     page_ended n mid r whole (Err e) (inr did) none = page_untold n mid r whole e
-        (subst (λ (es : List PageEntry). EntersEntries over_files token source es mid (Err e) new)
+        (subst (λ (es : List PageEntry). EntersOf over_files token source es mid (Err e) new)
         (same_entries did.0 entries (sym did.1 ∙ read)) did.2) none
 
     -- ---- a place that was refused, or is in doubt

@@ -30,6 +30,8 @@ use Rattle.archive_input.specs.Telling.{import_text}
 use Rattle.gedcom_tree.specs.Forest.{Item}
 use Rattle.import_definitions.specs.Report.{report}
 use Rattle.receipts.specs.declared.answer.Answer.{Answer}
+use Rattle.row_references.specs.Words.{number_in}
+use Rattle.row_references.specs.declared.words.NumberWord.{NumberWord}
 use Rattle.store.specs.Earlier.{HoldsArchive}
 use Rattle.store.specs.Histories.{in_doubt}
 use Rattle.store.specs.Lives.{Counts}
@@ -98,6 +100,10 @@ KeepsOne run r text kept = (answer : Answer) × (kept ≡ (r, Ok answer) ∷ [])
 abbrev pub KeepsNone : Run → List Done → Type 0
 KeepsNone run kept = (kept ≡ []) × (run.written ≡ []) × ¬ (IsDone run)
 
+-- P of the number of a source, which a word gave on the archive
+abbrev pub OfSource : Content → NumberWord → (ℕ → Type 0) → Type 0
+OfSource c word P = (n : ℕ) × (number_in c word ≡ Some n) × P n
+
 -- the entries of the input are kept, all of them, with the numbers that the archive had for the tokens of their places
 abbrev pub KeepsBatch : Content → List ℕ → ℕ → Run → List Done → Type 0
 KeepsBatch c token source run kept = (rows : List Row) × (entries : List EntryRow)
@@ -154,9 +160,10 @@ KeepsFile token run kept = (forest : List Item) × IsFileOf (Some run.input) for
 abbrev pub Acts : Content → Option Task → Run → List Done → Type 0
 Acts c (Some task.Apply) run kept = KeepsNone run kept ⊎ KeepsRows c run kept
 Acts c (Some task.ApplyUntilRefused) run kept = KeepsNone run kept ⊎ KeepsUntilRefused c run kept
-Acts c (Some (task.Entries token source)) run kept = KeepsNone run kept ⊎ KeepsBatch c token source run kept
+Acts c (Some (task.Entries token source)) run kept =
+    KeepsNone run kept ⊎ OfSource c source (λ n. KeepsBatch c token n run kept)
 Acts c (Some (task.EnterTable token source form)) run kept =
-    KeepsNone run kept ⊎ KeepsTable form.makes c token source form run kept
+    KeepsNone run kept ⊎ OfSource c source (λ n. KeepsTable form.makes c token n form run kept)
 Acts c (Some (task.Import token progress)) run kept = KeepsNone run kept ⊎ KeepsFile token run kept
 Acts c (Some task.Export) run kept = (kept ≡ []) × (IsDone run → ReadsBack c run.written)
 Acts c _ run kept = kept ≡ []

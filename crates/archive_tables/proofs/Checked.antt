@@ -1,11 +1,18 @@
 -- How a check ends that was refused.
-use Rattle.std.proofs.Common.{◌≡◌, ℕ, List, Bool, true, false, Err, inl, inr, refl, subst, sym}
-use Rattle.std.specs.Prelude.{◌≢◌, Option, IfErr}
+use Rattle.std.proofs.Common.{◌≡◌, ℕ, List, Bool, true, false, Ok, Err, inl, inr, refl, subst, sym}
+use Rattle.std.specs.Prelude.{◌≢◌, Option, None, Some, Result, IfErr}
 use Rattle.std.specs.Io.KnownBytes.{Keeps}
 use Rattle.archive_state.specs.Looks.{is_failure, is_stop}
 use Rattle.record_text.specs.declared.refusal.RefusalKind.{RefusalKind}
 use Rattle.record_text.specs.declared.refusal.RefusalKind.TheVariants.{OutOfMemory, WriteFailed}
-use Rattle.archive_tables.specs.Checks.{EndsChecking, Right}
+use Rattle.archive_state.specs.Content.{Content}
+use Rattle.page_checks.proofs.Unblamed.{never_written}
+use Rattle.page_entries.specs.declared.dates.DateOrder.{DateOrder}
+use Rattle.row_references.specs.Words.{number_in}
+use Rattle.row_references.specs.declared.words.NumberWord.{NumberWord}
+use Rattle.table_pages.specs.Sheets.{Sheet, sheet_of}
+use Rattle.table_pages.specs.declared.fault.PageFault.{PageFault}
+use Rattle.archive_tables.specs.Checks.{EndsChecking, Right, check_by, check_with, unsourced}
 
 module _ (kind told : RefusalKind) (before after : Option (List ℕ)) (right : Right)
     (stops : is_stop kind ≡ true → is_failure kind ≡ false → told ≡ OutOfMemory)
@@ -21,3 +28,17 @@ module _ (kind told : RefusalKind) (before after : Option (List ℕ)) (right : R
 
   pub refused_by : EndsChecking (Err told) before after right
   refused_by = by_stop (is_stop kind) refl
+
+-- the writer is not to blame for what a check answers
+never_unsourced : (sheet : Result Sheet PageFault) → IfErr (unsourced sheet) (λ kind. kind ≢ WriteFailed)
+never_unsourced (Ok sheet) = λ same. absurd cc
+never_unsourced (Err fault) = tt
+
+never_with : (c : Content) (source : Option ℕ) (order : Option DateOrder) (makes : Bool) (bytes : List ℕ)
+    → IfErr (check_with c source order makes bytes) (λ kind. kind ≢ WriteFailed)
+never_with c (Some n) order makes bytes = never_written c n order makes bytes
+never_with c None order makes bytes = never_unsourced (sheet_of bytes)
+
+pub never_written_by : (c : Content) (word : NumberWord) (order : Option DateOrder) (makes : Bool) (bytes : List ℕ)
+    → IfErr (check_by c word order makes bytes) (λ kind. kind ≢ WriteFailed)
+never_written_by c word order makes bytes = never_with c (number_in c word) order makes bytes

@@ -36,6 +36,7 @@ use Rattle.store.specs.declared.archive.Archive.{Archive}
 use Rattle.store.proofs.Viewed.{seen_of}
 use Rattle.store_tables.specs.Looking.{IsFailure}
 use Rattle.archive_input.specs.Applying.{PerformsAll, outcome_when_shut}
+use Rattle.row_references.specs.declared.words.NumberWord.{NumberWord}
 use Rattle.archive_tables.specs.Ends.{OnRead}
 use Rattle.archive_output.specs.Reading.{OnlyReads}
 use Rattle.page_batches.specs.Batches.{rows_by, rows_on, unplaced}
@@ -46,7 +47,7 @@ use Rattle.page_entries.specs.declared.dates.DateOrder.{DateOrder}
 use Rattle.page_entries.specs.declared.entries.PageEntry.{PageEntry}
 use Rattle.archive_tables.specs.Entering.{
   EntersCounted,
-  EntersEntries,
+  EntersOf,
   EntersPage,
   IsDone,
   IsDoneOrLeft,
@@ -144,7 +145,7 @@ module _ {S : Type 0} (g : Ghosts S) (old looked new : Archive S g) (was_kept : 
     }
 
     entered_by : IsDoneOrLeft g token source entries looked result new found
-        → EntersEntries g token source entries old result new
+        → EntersOf g token source entries old result new
     entered_by (inl d) = inl (entered d)
     entered_by (inr l) = inr (left l)
 
@@ -158,7 +159,7 @@ module _ {S : Type 0} (g : Ghosts S) (old new : Archive S g) (reads : OnlyReads 
   by_looks right (inl fails) = inl fails
   by_looks right (inr is) = inr (ap (rows_by entries) is)
 
-  refused_by_looks : (e : BatchRefusal) → e ≡ unplaced kind → EntersEntries g token source entries old (Err e) new
+  refused_by_looks : (e : BatchRefusal) → e ≡ unplaced kind → EntersOf g token source entries old (Err e) new
   refused_by_looks e is = inr (record {
     why = unplaced kind;
     is = ap Err is;
@@ -187,18 +188,18 @@ module _ {S : Type 0} (g : Ghosts S) (old looked new : Archive S g) (was_kept : 
 
   pub page_entered : (found : List Found) → r ≡ Ok found → (result : Result Answer BatchRefusal)
       → IsDoneOrLeft g token source entries looked result new found
-      → EntersEntries g token source entries old result new
+      → EntersOf g token source entries old result new
   page_entered found is result did = entered_by g old looked new was_kept reads (lost_as (Ok found) is) token source
       entries result found (looked_as (Ok found) is) did
 
   pub page_refused : (kind : RefusalKind) → r ≡ Err kind → (e : BatchRefusal) → e ≡ unplaced kind
-      → EntersEntries g token source entries old (Err e) looked
+      → EntersOf g token source entries old (Err e) looked
   page_refused kind is e same = refused_by_looks g old looked reads token source entries kind
       (looked_as (Err kind) is) (lost_as (Err kind) is) e same
 
 -- ---- a page, by its entries
-pub page_by : {S : Type 0} (g : Ghosts S) (token : List ℕ) (source : ℕ) (order : Option DateOrder) (bytes : List ℕ)
-    (old new : Archive S g) (entries : List PageEntry) → page_of order bytes ≡ Ok entries
+pub page_by : {S : Type 0} (g : Ghosts S) (token : List ℕ) (source : NumberWord) (order : Option DateOrder)
+    (bytes : List ℕ) (old new : Archive S g) (entries : List PageEntry) → page_of order bytes ≡ Ok entries
     → (r : Result PageEnd BatchRefusal) → EntersCounted g token source entries old r new
     → EntersPage g token source order bytes old r new
 page_by g token source order bytes old new entries is (Ok (Entered answer words)) did = (entries, is, did)

@@ -5,5 +5,6 @@ mod Shown
 pub mod Entered
 pub mod PageLooked
 mod RowsEntered
+mod Sourced
 mod Placed
 mod Tried

@@ -45,7 +45,8 @@ use Rattle.store_tables.specs.Looking.{IsFailure}
 use Rattle.archive_input.specs.Applying.{Steps}
 use Rattle.archive_output.specs.Reading.{OnlyReads}
 use Rattle.archive_tables.specs.Ends.{OnRead}
-use Rattle.archive_tables.specs.RowBatches.{Enters, IsDone, IsLeft, batch_request, numbers_on}
+use Rattle.row_references.specs.declared.words.NumberWord.{NumberWord}
+use Rattle.archive_tables.specs.RowBatches.{Enters, EntersOf, IsDone, IsLeft, batch_request, numbers_on}
 use Rattle.archive_tables.proofs.Entered.{performs_all, same_shut, true_is_not}
 
 -- ---- the numbers of rows
@@ -86,7 +87,7 @@ module _ {S : Type 0} (g : Ghosts S) (token : List ℕ) (source : ℕ) (batch : 
       let at = (looks clean).1 stored c settled seen in at.0 ∙ same_numbers (kept_number c) rows batch all.2
 
   entered : IsDone g token source numbers rows looked outcome new
-      → Enters g token source input old outcome new
+      → EntersOf g token source input old outcome new
   entered d = inl (record {
     numbers = numbers;
     rows = rows;
@@ -106,7 +107,7 @@ module _ {S : Type 0} (g : Ghosts S) (token : List ℕ) (source : ℕ) (batch : 
   by_rows why (inr lacks) c same =
       inr (subst (λ (ns : List (Option ℕ)). RefusesPlaced ns rows why) same lacks)
 
-  left : IsLeft g token source numbers rows looked outcome new → Enters g token source input old outcome new
+  left : IsLeft g token source numbers rows looked outcome new → EntersOf g token source input old outcome new
   left l = inr (inl (record {
     why = l.0;
     is = l.1;
@@ -121,7 +122,7 @@ module _ {S : Type 0} (g : Ghosts S) (token : List ℕ) (source : ℕ) (batch : 
   }))
 
   pub rows_entered : IsDone g token source numbers rows looked outcome new
-      ⊎ IsLeft g token source numbers rows looked outcome new → Enters g token source input old outcome new
+      ⊎ IsLeft g token source numbers rows looked outcome new → EntersOf g token source input old outcome new
   rows_entered (inl d) = entered d
   rows_entered (inr l) = left l
 
@@ -130,7 +131,7 @@ pub refused_by_looks : {S : Type 0} (g : Ghosts S) (token : List ℕ) (source : 
     → OnlyReads g old new → (kind : RefusalKind)
     → OnRead (state g old.conn) (state g new.conn) (λ c. IsFailure kind) → new.is_lost ≡ is_storage kind
     → (e : Refusal) → e ≡ placeless kind → (input : Option (List ℕ)) (batch : List BatchRow) → ReadsRows input batch
-    → Enters g token source input old (Err e) new
+    → EntersOf g token source input old (Err e) new
 refused_by_looks g token source old new reads kind looks lost e is input batch all =
     let same : e.kind ≡ kind = ap (λ (r : Refusal). r.kind) is in
     inr (inl (record {
@@ -144,11 +145,21 @@ refused_by_looks g token source old new reads kind looks lost e is input batch a
           inl (subst IsFailure (sym same) ((looks clean).1 stored c settled seen).0);
     }))
 
--- an archive that takes no requests
+-- an archive that takes no requests refuses the batches of all sources alike
+pub shut_alike : {S : Type 0} (g : Ghosts S) (token : List ℕ) (one other : ℕ) (old new : Archive S g)
+    → is_shut old ≡ true → (entries : List EntryRow) (outcome : Outcome)
+    → Steps g (Ok (batch_request token one entries, outcome)) old new
+    → Steps g (Ok (batch_request token other entries, outcome)) old new
+shut_alike g token one other old new shut entries outcome done = (
+  λ clean takes. absurd (true_is_not (is_shut old) takes shut),
+  done.1,
+  λ was. let refused = done.2 was in ((refused.0.0, tt), refused.1),
+)
+
 pub rows_refused : {S : Type 0} (g : Ghosts S) (token : List ℕ) (source : ℕ) (old new : Archive S g)
     → is_shut old ≡ true → (entries : List EntryRow) (outcome : Outcome)
     → Steps g (Ok (batch_request token source entries, outcome)) old new → (input : Option (List ℕ))
-    → Enters g token source input old outcome new
+    → EntersOf g token source input old outcome new
 rows_refused g token source old new shut entries outcome done input = inl (record {
   numbers = [];
   rows = [];
@@ -159,7 +170,7 @@ rows_refused g token source old new shut entries outcome done input = inl (recor
 })
 
 -- ---- the whole, by its outcome
-module _ {S : Type 0} (g : Ghosts S) (token : List ℕ) (source : ℕ) (input : Option (List ℕ))
+module _ {S : Type 0} (g : Ghosts S) (token : List ℕ) (source : NumberWord) (input : Option (List ℕ))
     (old new : Archive S g) where
   pub whole_ok : (o : Outcome) → Enters g token source input old o new
       → IfOk o (λ answer. Enters g token source input old (Ok answer) new)

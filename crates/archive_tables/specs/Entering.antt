@@ -44,6 +44,8 @@ use Rattle.page_batches.specs.declared.rows.BatchRefusal.{BatchRefusal}
 use Rattle.page_entries.specs.Entries.{page_of}
 use Rattle.page_entries.specs.declared.dates.DateOrder.{DateOrder}
 use Rattle.page_entries.specs.declared.entries.PageEntry.{PageEntry}
+use Rattle.row_references.specs.declared.words.NumberWord.{NumberWord}
+use Rattle.archive_tables.specs.Sources.{BySource}
 use Rattle.archive_tables.specs.declared.entering.PageEnd.{PageEnd}
 use Rattle.archive_tables.specs.declared.entering.PageEnd.TheVariants.{Entered, Unread}
 
@@ -109,26 +111,32 @@ module _ {S : Type 0} (g : Ghosts S) (token : List ℕ) (source : ℕ) (entries 
     pub right : OnRead (state g old.conn) (state g new.conn)
         (λ c. IsFailure why.refusal.kind ⊎ (rows_on c token source entries ≡ Err why))
 
-  abbrev pub EntersEntries : Type 0
-  EntersEntries = IsEntered ⊎ IsRefused
+  abbrev pub EntersOf : Type 0
+  EntersOf = IsEntered ⊎ IsRefused
+
+-- the same of a source whose number a word gives; where it gives none they were refused without a row
+abbrev pub EntersEntries : {S : Type 0} → (g : Ghosts S) → List ℕ → NumberWord → List PageEntry → Archive S g
+    → Result Answer BatchRefusal → Archive S g → Type 0
+EntersEntries g token word entries old result new =
+    BySource g old new word (λ n. EntersOf g token n entries old result new) (λ why. result ≡ Err (unplaced why))
 
 -- the entries of a page were entered or refused, and how many dates are only words is answered
-abbrev pub EntersCounted : {S : Type 0} → (g : Ghosts S) → List ℕ → ℕ → List PageEntry → Archive S g
+abbrev pub EntersCounted : {S : Type 0} → (g : Ghosts S) → List ℕ → NumberWord → List PageEntry → Archive S g
     → Result PageEnd BatchRefusal → Archive S g → Type 0
-EntersCounted g token source entries old (Ok (Entered answer words)) new =
-    (words ≡ count_words entries) × EntersEntries g token source entries old (Ok answer) new
-EntersCounted g token source entries old (Ok (Unread fault)) new = ⊥
-EntersCounted g token source entries old (Err e) new = EntersEntries g token source entries old (Err e) new
+EntersCounted g token word entries old (Ok (Entered answer words)) new =
+    (words ≡ count_words entries) × EntersEntries g token word entries old (Ok answer) new
+EntersCounted g token word entries old (Ok (Unread fault)) new = ⊥
+EntersCounted g token word entries old (Err e) new = EntersEntries g token word entries old (Err e) new
 
 -- ---- a page
--- its first fault, and the archive is as it was; or its entries, which were entered or refused; or memory was refused
--- before the archive was looked at
-abbrev pub EntersPage : {S : Type 0} → (g : Ghosts S) → List ℕ → ℕ → Option DateOrder → List ℕ → Archive S g
+-- its first fault, and the archive is as it was; or its entries, which were entered or refused, of a source whose
+-- number a word gives; or memory was refused before the archive was looked at
+abbrev pub EntersPage : {S : Type 0} → (g : Ghosts S) → List ℕ → NumberWord → Option DateOrder → List ℕ → Archive S g
     → Result PageEnd BatchRefusal → Archive S g → Type 0
-EntersPage g token source order bytes old (Ok (Unread fault)) new = (page_of order bytes ≡ Err fault) × (new ≡ old)
-EntersPage g token source order bytes old (Ok (Entered answer words)) new =
+EntersPage g token word order bytes old (Ok (Unread fault)) new = (page_of order bytes ≡ Err fault) × (new ≡ old)
+EntersPage g token word order bytes old (Ok (Entered answer words)) new =
     (entries : List PageEntry) × (page_of order bytes ≡ Ok entries)
-    × EntersCounted g token source entries old (Ok (Entered answer words)) new
-EntersPage g token source order bytes old (Err e) new = ((e ≡ unplaced OutOfMemory) × (new ≡ old))
+    × EntersCounted g token word entries old (Ok (Entered answer words)) new
+EntersPage g token word order bytes old (Err e) new = ((e ≡ unplaced OutOfMemory) × (new ≡ old))
     ⊎ ((entries : List PageEntry) × (page_of order bytes ≡ Ok entries)
-    × EntersEntries g token source entries old (Err e) new)
+    × EntersEntries g token word entries old (Err e) new)

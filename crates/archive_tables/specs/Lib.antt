@@ -6,3 +6,4 @@ pub mod Looking
 pub mod Making
 pub mod Remembering
 pub mod RowBatches
+pub mod Sources

@@ -49,9 +49,12 @@ use Rattle.page_entries.specs.Entries.{and_then, page_of}
 use Rattle.page_entries.specs.declared.dates.DateOrder.{DateOrder}
 use Rattle.page_entries.specs.declared.entries.PageEntry.{PageEntry}
 use Rattle.page_places.specs.Ways.{name_of}
+use Rattle.row_references.specs.declared.words.NumberWord.{NumberWord}
+use Rattle.row_references.specs.declared.words.NumberWord.TheVariants.{Number}
 use Rattle.table_pages.specs.declared.fault.PageFault.{PageFault}
 use Rattle.archive_tables.specs.Ends.{OnRead}
 use Rattle.archive_tables.specs.Entering.{EntersPage, of_sheet, page_request}
+use Rattle.archive_tables.specs.Sources.{BySource}
 use Rattle.archive_tables.specs.declared.entering.PageEnd.{PageEnd}
 use Rattle.archive_tables.specs.declared.entering.PageEnd.TheVariants.{Unread}
 use Rattle.archive_tables.specs.declared.making.MadePlace.{MadePlace}
@@ -160,7 +163,7 @@ module _ {S : Type 0} (g : Ghosts S) (token : List ℕ) where
         → Type 0
     EntersTried paths old made result new =
         ((mid : Archive S g) × HasMade paths (length paths) made old mid
-        × EntersPage g token source order bytes mid result new)
+        × EntersPage g token (Number source) order bytes mid result new)
         ⊎ ((e : Refusal) × IsStopped paths made old e new × (result ≡ Err (unplaced e.kind)))
 
     -- nothing was made, and the archive was only looked at: it would refuse the page with its places; or memory was
@@ -185,15 +188,23 @@ module _ {S : Type 0} (g : Ghosts S) (token : List ℕ) where
       pub right : OnRead (state g old.conn) (state g between.conn) (λ c. trial_on c token source entries ≡ Ok paths)
       pub entered : EntersTried paths between made result new
 
-    -- it is no page, or memory was refused before the archive was looked at
-    pub record IsUnread (old : Archive S g) (made : List MadePlace) (result : Result PageEnd BatchRefusal)
-        (new : Archive S g) : Type 0 where
-      pub none : made ≡ []
-      pub same : new ≡ old
-      pub why : (result ≡ Err (unplaced OutOfMemory))
-          ⊎ ((fault : PageFault) × (page_of order bytes ≡ Err fault) × (result ≡ Ok (Unread fault)))
+    abbrev pub EntersLacking : List PageEntry → Archive S g → List MadePlace → Result PageEnd BatchRefusal
+        → Archive S g → Type 0
+    EntersLacking entries old made result new = IsUntaken entries old made result new
+        ⊎ IsTaken entries old made result new
 
-    abbrev pub EntersPlaced : Archive S g → List MadePlace → Result PageEnd BatchRefusal → Archive S g → Type 0
-    EntersPlaced old made result new = IsUnread old made result new
-        ⊎ ((entries : List PageEntry) × (page_of order bytes ≡ Ok entries)
-        × (IsUntaken entries old made result new ⊎ IsTaken entries old made result new))
+  -- it is no page, or memory was refused before the archive was looked at
+  pub record IsUnread (order : Option DateOrder) (bytes : List ℕ) (old : Archive S g) (made : List MadePlace)
+      (result : Result PageEnd BatchRefusal) (new : Archive S g) : Type 0 where
+    pub none : made ≡ []
+    pub same : new ≡ old
+    pub why : (result ≡ Err (unplaced OutOfMemory))
+        ⊎ ((fault : PageFault) × (page_of order bytes ≡ Err fault) × (result ≡ Ok (Unread fault)))
+
+  -- its entries are of a source whose number a word gives; where it gives none, nothing was made
+  abbrev pub EntersPlaced : NumberWord → Option DateOrder → List ℕ → Archive S g → List MadePlace
+      → Result PageEnd BatchRefusal → Archive S g → Type 0
+  EntersPlaced word order bytes old made result new = IsUnread order bytes old made result new
+      ⊎ ((entries : List PageEntry) × (page_of order bytes ≡ Ok entries)
+      × BySource g old new word (λ n. EntersLacking n order bytes entries old made result new)
+      (λ why. (made ≡ []) × (result ≡ Err (unplaced why))))

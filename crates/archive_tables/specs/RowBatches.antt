@@ -5,6 +5,7 @@ use Rattle.sqlite.specs.Held.{state}
 use Rattle.sqlite.specs.State.{HasCleanDisk}
 use Rattle.sqlite_trees.specs.declared.store.Store.{Ghosts}
 use Rattle.record_text.specs.declared.refusal.Refusal.{Refusal}
+use Rattle.record_text.specs.declared.refusal.RefusalKind.{RefusalKind}
 use Rattle.record_text.specs.declared.refusal.RefusalKind.TheVariants.{OutOfMemory, ReadFailed}
 use Rattle.archive_core.specs.declared.request.Request.{Request}
 use Rattle.archive_state.specs.Content.{Content}
@@ -17,10 +18,13 @@ use Rattle.store.specs.declared.archive.Archive.{Archive}
 use Rattle.store_tables.specs.Looking.{IsFailure}
 use Rattle.row_references.specs.Entries.{place_number}
 use Rattle.row_references.specs.References.{kept_number}
-use Rattle.request_csv.specs.Batches.{AreEntries, IsRefused, ReadsBatch, RefusesPlaced, placeless}
+use Rattle.row_references.specs.declared.words.NumberWord.{NumberWord}
+use Rattle.request_csv.specs.Batches.{AreEntries, IsRefused, ReadsBatch, ReadsRows, RefusesPlaced, placeless}
 use Rattle.request_csv.specs.Input.{AreRows, Row}
+use Rattle.request_csv.specs.declared.batch_rows.BatchRow.{BatchRow}
 use Rattle.archive_input.specs.Applying.{Steps}
 use Rattle.archive_output.specs.Reading.{OnlyReads}
+use Rattle.archive_tables.specs.Sources.{BySource}
 
 -- the request of a batch of register entries of a source
 abbrev pub batch_request : List ℕ → ℕ → List EntryRow → Request
@@ -73,8 +77,20 @@ module _ {S : Type 0} (g : Ghosts S) (token : List ℕ) (source : ℕ) where
     abbrev pub WantsMemory : Type 0
     WantsMemory = (outcome ≡ Err (placeless OutOfMemory)) × (new ≡ old)
 
-    abbrev pub Enters : Type 0
-    Enters = IsEntered ⊎ (IsRefusedBatch ⊎ WantsMemory)
+    abbrev pub EntersOf : Type 0
+    EntersOf = IsEntered ⊎ (IsRefusedBatch ⊎ WantsMemory)
+
+-- the word gives no number: all rows of the input were read before, and the batch was refused without a row
+abbrev pub HasNoSource : Option (List ℕ) → Outcome → RefusalKind → Type 0
+HasNoSource input outcome why = (outcome ≡ Err (placeless why)) × ((batch : List BatchRow) × ReadsRows input batch)
+
+-- the same of a source whose number a word gives. An archive that takes no requests is not looked at for it: it refuses
+-- the batch as one of any source
+abbrev pub Enters : {S : Type 0} → (g : Ghosts S) → List ℕ → NumberWord → Option (List ℕ) → Archive S g → Outcome
+    → Archive S g → Type 0
+Enters g token word input old outcome new =
+    BySource g old new word (λ n. EntersOf g token n input old outcome new) (HasNoSource input outcome)
+    ⊎ ((is_shut old ≡ true) × ((n : ℕ) → EntersOf g token n input old outcome new))
 
 -- why rows are no batch; the reader is blamed only where it failed
 abbrev pub IsNoBatch : Option (List ℕ) → Refusal → Type 0 → Type 0

@@ -4,26 +4,29 @@ ghost use Rattle.std.specs.Prelude.{◌≡◌, ◌≢◌, ◌⊎◌, Err, Ok, fa
 ghost use Rattle.std.specs.Io.KnownBytes.{Appends, Keeps};
 ghost use Rattle.sqlite.specs.Held.{state};
 ghost use Rattle.archive_output.specs.Reading.{OnlyReads};
-ghost use Rattle.archive_state.specs.Looks.{Agrees, is_failure, is_stop};
+ghost use Rattle.archive_state.specs.Looks.{Agrees, CountsFailures, is_failure, is_stop};
+ghost use Rattle.archive_state.specs.Views.{On};
 ghost use Rattle.devices.specs.Devices.{AppendsBeginning, Rose};
-ghost use Rattle.page_checks.specs.Page.{page_check};
 ghost use Rattle.page_checks.specs.Unread.{lines};
 ghost use Rattle.record_text.specs.declared.refusal.RefusalKind.TheVariants.{OutOfMemory, WriteFailed};
 ghost use Rattle.store.specs.Histories.{has_broken, is_storage};
-ghost use Rattle.archive_tables.specs.Checks.{EndsChecking, Right};
+ghost use Rattle.table_pages.specs.Sheets.{sheet_of};
+ghost use Rattle.archive_tables.specs.Checks.{EndsChecking, Right, check_by, unsourced};
 ghost use Rattle.archive_tables.specs.Ends.{OnRead};
 
 use archive_output::write_text;
+use archive_state::View;
 use devices::Device;
 use page_checks::{PageCheck, check_page, fault_lines};
 use page_entries::DateOrder;
 use record_text::RefusalKind;
+use row_references::{NumberWord, number_in};
 use sqlite::Alter;
 use std::alloc::{AllocError, Global};
 use std::io::Write;
 use store::Archive;
 use store::laws::looks_are_a_call;
-use table_pages::PageFault;
+use table_pages::{PageFault, read_sheet};
 
 /// What the check of a page has come to.
 #[derive(Debug, Drop)]
@@ -37,13 +40,13 @@ pub enum PageFound {
 /// Looks a page over, whose entries would be of a source, and writes a line for all that is wrong or doubtful. The
 /// archive is not changed; an import that is open stays open, and nothing of it is seen.
 ///
-/// 50, 51: the number is of no record, or of another than a source. 80: the database failed, and the archive has to be
-/// opened again. 40: somebody else has spoilt what is stored. At these nothing is written. 95: the output failed. 1:
-/// memory was refused. At these a beginning of the lines may have been written.
+/// 50, 51: the word gives no number, or that of no record, or of another than a source. 80: the database failed, and
+/// the archive has to be opened again. 40: somebody else has spoilt what is stored. At these nothing is written. 95:
+/// the output failed. 1: memory was refused. At these a beginning of the lines may have been written.
 pub fn write_check<S: Alter, W: Write + Device>(
     alloc: Global,
     archive: &mut Archive<S>,
-    source: u32,
+    source: &NumberWord,
     order: Option<DateOrder>,
     makes: bool,
     bytes: &[u8],
@@ -52,7 +55,7 @@ pub fn write_check<S: Alter, W: Write + Device>(
     requires kept { archive.old.is_lost ≡ false }
     ensures ended { OnRead (state S.Store archive.old.conn) (state S.Store archive.new.conn)
         (λ c. EndsChecking result (W.contents writer.old) (W.contents writer.new)
-        (page_check c source order makes bytes.now)) }
+        (check_by c source.now order makes bytes.now)) }
     ensures unread { IfErr result
         (λ kind. is_failure kind ≡ true → Keeps (W.contents writer.old) (W.contents writer.new)) }
     ensures writer { IfErr result (λ kind. kind ≡ WriteFailed → Rose (W.failed writer.old) (W.failed writer.new)) }
@@ -61,9 +64,40 @@ pub fn write_check<S: Alter, W: Write + Device>(
 {
     looks_are_a_call::<S>();
     let import = archive.set_aside();
-    let found = check_page(alloc, archive, source, order, makes, bytes);
+    let found = check_sourced(alloc, archive, source, order, makes, bytes);
     archive.put_back(import);
     write_checked(alloc, archive.is_lost(), found, writer)
+}
+
+/// Looks a page over, whose entries would be of the source of the number that a word gives. 50: it gives none, and the
+/// page is a sheet.
+fn check_sourced<V: View>(
+    alloc: Global,
+    view: &mut V,
+    source: &NumberWord,
+    order: Option<DateOrder>,
+    makes: bool,
+    bytes: &[u8],
+) -> Result<Result<PageCheck, PageFault>, RefusalKind>
+    ensures decides { On V.View view.old view.new
+        (λ c. Agrees is_stop result (check_by c source.now order makes bytes.now)) }
+    ensures counts { CountsFailures (V.failed view.old) (V.failed view.new) result }
+{
+    match number_in(alloc, view, source)? {
+        Some(number) => check_page(alloc, view, number, order, makes, bytes),
+        None => check_unsourced(alloc, bytes),
+    }
+}
+
+/// Why a page is no sheet. 50: it is one.
+fn check_unsourced(alloc: Global, bytes: &[u8]) -> Result<Result<PageCheck, PageFault>, RefusalKind>
+    ensures decides { Agrees is_stop result (unsourced (sheet_of bytes.now)) }
+    ensures unfailed { IfErr result (λ kind. is_failure kind ≡ false) }
+{
+    match read_sheet(alloc, bytes)? {
+        Ok(_) => Err(RefusalKind::NoSuch),
+        Err(fault) => Ok(Err(fault)),
+    }
 }
 
 /// Writes what a check has found, unless its looks lost the archive: then it is 80.

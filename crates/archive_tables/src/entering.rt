@@ -3,13 +3,14 @@
 ghost use Rattle.std.specs.Prelude.{◌≡◌, Some, false};
 ghost use Rattle.archive_tables.specs.Entering as entering;
 
-use crate::looking::look_for_places;
+use crate::looking::{look_for_places, look_for_source};
 use crate::request::{PageRequest, request_of};
 use archive_input::perform_once;
 use page_batches::{BatchRefusal, Places, count_words, row_place, unplaced};
 use page_entries::{DateOrder, PageEntry, read_page};
 use receipts::{Answer, Token};
 use record_text::{Refusal, RefusalKind};
+use row_references::NumberWord;
 use sqlite::Alter;
 use std::alloc::Global;
 use store::Archive;
@@ -25,21 +26,23 @@ pub enum PageEnd {
 }
 
 /// Enters a page as a batch of a source: all its rows or none, in one commit, as one request under the token. Dates of
-/// three numbers are in that order, where one is given.
+/// three numbers are in that order, where one is given. The number of the source may be given by a token: it is the
+/// first number of the answer that is stored for it before the batch.
 ///
 /// Where the page has a fault the archive is not touched. Else refusals are those of the looks for the source and the
-/// places (50 at the first row without a place, 51 of the source, 80, 40), and then those of `Archive::perform`, all
-/// with the number that the sheet shows for the row. 84: an import is open. 1: memory was refused.
+/// places (50 without a row if its token has no number, and at the first row without a place, 51 of the source, 80,
+/// 40), and then those of `Archive::perform`, all with the number that the sheet shows for the row. 84: an import is
+/// open. 1: memory was refused.
 pub fn enter_page<S: Alter>(
     alloc: Global,
     archive: &mut Archive<S>,
     token: Token,
-    source: u32,
+    source: &NumberWord,
     order: Option<DateOrder>,
     bytes: &[u8],
 ) -> Result<PageEnd, BatchRefusal>
     requires kept { archive.old.is_lost ≡ false }
-    ensures { entering.EntersPage S.Store token source order bytes.now archive.old result archive.new }
+    ensures { entering.EntersPage S.Store token source.now order bytes.now archive.old result archive.new }
 {
     match read_page(alloc, order, bytes) {
         Ok(Ok(entries)) => enter_counted(alloc, archive, token, source, entries),
@@ -53,11 +56,11 @@ fn enter_counted<S: Alter>(
     alloc: Global,
     archive: &mut Archive<S>,
     token: Token,
-    source: u32,
+    source: &NumberWord,
     entries: Vec<PageEntry>,
 ) -> Result<PageEnd, BatchRefusal>
     requires kept { archive.old.is_lost ≡ false }
-    ensures { entering.EntersCounted S.Store token source entries.items archive.old result archive.new }
+    ensures { entering.EntersCounted S.Store token source.now entries.items archive.old result archive.new }
 {
     let words = count_words(&entries);
     match enter_entries(alloc, archive, token, source, entries) {
@@ -66,8 +69,28 @@ fn enter_counted<S: Alter>(
     }
 }
 
-/// Enters the entries of a page.
+/// Enters the entries of a page, of a source whose number a word gives.
 fn enter_entries<S: Alter>(
+    alloc: Global,
+    archive: &mut Archive<S>,
+    token: Token,
+    source: &NumberWord,
+    entries: Vec<PageEntry>,
+) -> Result<Answer, BatchRefusal>
+    requires kept { archive.old.is_lost ≡ false }
+    ensures { entering.EntersEntries S.Store token source.now entries.items archive.old result archive.new }
+{
+    match source {
+        NumberWord::Number(number) => enter_of(alloc, archive, token, *number, entries),
+        NumberWord::Reference(_) => match look_for_source(alloc, archive, source) {
+            Ok(number) => enter_of(alloc, archive, token, number, entries),
+            Err(kind) => Err(unplaced(alloc, kind)),
+        },
+    }
+}
+
+/// Enters the entries of a page, of the source of this number.
+fn enter_of<S: Alter>(
     alloc: Global,
     archive: &mut Archive<S>,
     token: Token,
@@ -75,7 +98,7 @@ fn enter_entries<S: Alter>(
     entries: Vec<PageEntry>,
 ) -> Result<Answer, BatchRefusal>
     requires kept { archive.old.is_lost ≡ false }
-    ensures { entering.EntersEntries S.Store token source entries.items archive.old result archive.new }
+    ensures { entering.EntersOf S.Store token source entries.items archive.old result archive.new }
 {
     match look_for_places(alloc, archive, &token, source, &entries) {
         Ok(found) => enter_found(alloc, archive, token, source, entries, found),

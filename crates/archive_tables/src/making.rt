@@ -1,18 +1,20 @@
 //! A page entered on an archive that is open, after the places that it lacks are made.
 
-ghost use Rattle.std.specs.Prelude.{◌≡◌, ◌++◌, ◌∷◌, [], IfErr, IfOk, OnErr, OnOk, false, true};
+ghost use Rattle.std.specs.Prelude.{◌≡◌, ◌++◌, ◌∷◌, [], Err, IfErr, IfOk, OnErr, OnOk, false, true};
 ghost use Rattle.sqlite.specs.Held.{state};
 ghost use Rattle.archive_output.specs.Reading.{OnlyReads};
 ghost use Rattle.archive_state.specs.Looks.{Looked, is_failure};
 ghost use Rattle.archive_tables.specs.Ends.{OnRead};
 ghost use Rattle.archive_tables.specs.Looking.{IsFound};
 ghost use Rattle.archive_tables.specs.Making as making;
+ghost use Rattle.archive_tables.specs.Sources.{BySource};
+ghost use Rattle.page_batches.specs.Batches.{unplaced as unplaced_of};
 ghost use Rattle.page_batches.specs.Placing.{parent_on as parent_of};
 ghost use Rattle.page_batches.specs.Looks.{Found};
 ghost use Rattle.store.specs.Histories.{has_broken, is_storage};
 
 use crate::entering::{PageEnd, enter_page};
-use crate::looking::unbroken;
+use crate::looking::{look_for_source, unbroken};
 use crate::trying::trial;
 use archive_core::Request;
 use archive_input::perform_once;
@@ -22,6 +24,7 @@ use page_entries::{DateOrder, PageEntry, read_page};
 use page_places::place_name;
 use receipts::{Answer, Token};
 use record_text::{Refusal, RefusalKind};
+use row_references::NumberWord;
 use sqlite::Alter;
 use std::alloc::{AllocError, Global};
 use store::Archive;
@@ -44,31 +47,82 @@ pub fn enter_with_places<S: Alter>(
     alloc: Global,
     archive: &mut Archive<S>,
     token: Token,
-    source: u32,
+    source: &NumberWord,
     order: Option<DateOrder>,
     bytes: &[u8],
     made: &mut Vec<MadePlace>,
 ) -> Result<PageEnd, BatchRefusal>
     requires kept { archive.old.is_lost ≡ false }
     requires none { made.old.items ≡ [] }
-    ensures { making.EntersPlaced S.Store token source order bytes.now archive.old made.new.items result archive.new }
+    ensures { making.EntersPlaced S.Store token source.now order bytes.now archive.old made.new.items result
+        archive.new }
 {
     match read_page(alloc, order, bytes) {
-        Ok(Ok(entries)) => match try_page(alloc, archive, &token, source, entries) {
-            Ok(paths) => enter_tried(
-                alloc,
-                archive,
-                token,
-                source,
-                order,
-                bytes,
-                paths.fields(),
-                made,
-            ),
-            Err(refusal) => Err(refusal),
-        },
+        Ok(Ok(entries)) => enter_sourced(
+            alloc, archive, token, source, order, bytes, entries, made,
+        ),
         Ok(Err(fault)) => Ok(PageEnd::Unread { fault }),
         Err(_) => Err(unplaced(alloc, RefusalKind::OutOfMemory)),
+    }
+}
+
+/// The same with the entries of the page.
+fn enter_sourced<S: Alter>(
+    alloc: Global,
+    archive: &mut Archive<S>,
+    token: Token,
+    source: &NumberWord,
+    order: Option<DateOrder>,
+    bytes: &[u8],
+    entries: Vec<PageEntry>,
+    made: &mut Vec<MadePlace>,
+) -> Result<PageEnd, BatchRefusal>
+    requires kept { archive.old.is_lost ≡ false }
+    requires none { made.old.items ≡ [] }
+    ensures { BySource S.Store archive.old archive.new source.now
+        (λ n. making.EntersLacking S.Store token n order bytes.now entries.items archive.old made.new.items result
+        archive.new)
+        (λ why. (made.new.items ≡ []) × (result ≡ Err (unplaced_of why))) }
+{
+    match source {
+        NumberWord::Number(number) => enter_lacking(
+            alloc, archive, token, *number, order, bytes, entries, made,
+        ),
+        NumberWord::Reference(_) => match look_for_source(alloc, archive, source) {
+            Ok(number) => enter_lacking(alloc, archive, token, number, order, bytes, entries, made),
+            Err(kind) => Err(unplaced(alloc, kind)),
+        },
+    }
+}
+
+/// The same of the source of this number.
+fn enter_lacking<S: Alter>(
+    alloc: Global,
+    archive: &mut Archive<S>,
+    token: Token,
+    source: u32,
+    order: Option<DateOrder>,
+    bytes: &[u8],
+    entries: Vec<PageEntry>,
+    made: &mut Vec<MadePlace>,
+) -> Result<PageEnd, BatchRefusal>
+    requires kept { archive.old.is_lost ≡ false }
+    requires none { made.old.items ≡ [] }
+    ensures { making.EntersLacking S.Store token source order bytes.now entries.items archive.old made.new.items result
+        archive.new }
+{
+    match try_page(alloc, archive, &token, source, entries) {
+        Ok(paths) => enter_tried(
+            alloc,
+            archive,
+            token,
+            source,
+            order,
+            bytes,
+            paths.fields(),
+            made,
+        ),
+        Err(refusal) => Err(refusal),
     }
 }
 
@@ -89,7 +143,14 @@ fn enter_tried<S: Alter>(
         archive.new }
 {
     match make_places(alloc, archive, &token, paths, made) {
-        Ok(()) => enter_page(alloc, archive, token, source, order, bytes),
+        Ok(()) => enter_page(
+            alloc,
+            archive,
+            token,
+            &NumberWord::Number(source),
+            order,
+            bytes,
+        ),
         Err(refusal) => Err(unplaced(alloc, refusal.kind)),
     }
 }

@@ -1,14 +1,23 @@
 //! All rows of an input, entered on an archive as one batch.
 
-ghost use Rattle.std.specs.Prelude.{◌≡◌, ◌⊎◌, Err, IfErr, IfOk, List, Ok, Option, true, ℕ};
+ghost use Rattle.std.specs.Prelude.{◌≡◌, ◌⊎◌, Err, IfErr, IfOk, List, Ok, Option, false, true, ℕ};
 ghost use Rattle.devices.specs.Devices.{Rose};
 ghost use Rattle.request_csv.specs.Batches.{AreRead, ReadsRows};
 ghost use Rattle.request_csv.specs.Input.{Row, row_bytes};
 ghost use Rattle.store.specs.Shut.{is_shut};
 ghost use Rattle.archive_input.specs.Applying.{Steps};
-ghost use Rattle.archive_tables.specs.RowBatches.{Enters, IsDone, IsLeft, IsNoBatch, batch_request};
+ghost use Rattle.archive_tables.specs.RowBatches.{
+  Enters,
+  EntersOf,
+  HasNoSource,
+  IsDone,
+  IsLeft,
+  IsNoBatch,
+  batch_request,
+};
+ghost use Rattle.archive_tables.specs.Sources.{BySource};
 
-use crate::looking::look_for_numbers;
+use crate::looking::{look_for_numbers, look_for_source};
 use archive_core::Request;
 use archive_input::perform_once;
 use commands::{Command, EntryRows};
@@ -16,29 +25,34 @@ use devices::Device;
 use receipts::{Answer, Token};
 use record_text::Refusal;
 use request_csv::{BatchRows, read_entries};
+use row_references::NumberWord;
 use sqlite::Alter;
 use std::alloc::Global;
 use std::io::Read;
 use store::Archive;
 
+/// The source of a batch that is refused before it is looked at.
+const ANY_SOURCE: u32 = 0;
+
 /// Reads rows of register entries, and enters them on the archive as a batch of a source: all of them or none, in one
-/// commit, as one request under the token. The place of a row may be a reference: it is the first number of the answer
-/// that is stored for its token before the batch.
+/// commit, as one request under the token. The source and the place of a row may be references: each is the first
+/// number of the answer that is stored for its token before the batch.
 ///
 /// Where a row is no entry, or memory or the reader fails, the refusal is that of `read_entries`, and the archive is
-/// not touched. Else it is 50 at the first row whose token has no number, then that of `Archive::perform`, whose place
-/// is the row that is refused. 80, 40: a look at the archive failed.
+/// not touched. Else it is 50 without a row if the token of the source has no number, then 50 at the first row whose
+/// token has none, then that of `Archive::perform`, whose place is the row that is refused. 80, 40: a look at the
+/// archive failed.
 pub fn enter<S: Alter, R: Read + Device>(
     alloc: Global,
     archive: &mut Archive<S>,
     token: Token,
-    source: u32,
+    source: &NumberWord,
     input: &mut R,
 ) -> Result<Answer, Refusal>
-    ensures entered { IfOk result (λ answer. Enters S.Store token source (row_bytes (R.remaining input.old)) archive.old
-        (Ok answer) archive.new) }
-    ensures refused { IfErr result (λ e. Enters S.Store token source (row_bytes (R.remaining input.old)) archive.old
-        (Err e) archive.new
+    ensures entered { IfOk result (λ answer. Enters S.Store token source.now (row_bytes (R.remaining input.old))
+        archive.old (Ok answer) archive.new) }
+    ensures refused { IfErr result (λ e. Enters S.Store token source.now (row_bytes (R.remaining input.old))
+        archive.old (Err e) archive.new
         ⊎ ((archive.new ≡ archive.old) × IsNoBatch (row_bytes (R.remaining input.old)) e
         (Rose (R.failed input.old) (R.failed input.new)))) }
 {
@@ -53,34 +67,70 @@ fn enter_rows<S: Alter>(
     alloc: Global,
     archive: &mut Archive<S>,
     token: Token,
-    source: u32,
+    source: &NumberWord,
     rows: BatchRows,
 ) -> Result<Answer, Refusal>
     ensures { (input : Option (List ℕ)) → ReadsRows input rows
-        → Enters S.Store token source input archive.old result archive.new }
+        → Enters S.Store token source.now input archive.old result archive.new }
 {
     if archive.is_shut() {
         drop(rows);
-        return enter_shut(alloc, archive, token, source);
+        return enter_shut(alloc, archive, token);
     }
+    enter_open(alloc, archive, token, source, rows)
+}
+
+/// The same on an archive that takes requests.
+fn enter_open<S: Alter>(
+    alloc: Global,
+    archive: &mut Archive<S>,
+    token: Token,
+    source: &NumberWord,
+    rows: BatchRows,
+) -> Result<Answer, Refusal>
+    requires takes { is_shut archive.old ≡ false }
+    ensures { (input : Option (List ℕ)) → ReadsRows input rows
+        → BySource S.Store archive.old archive.new source.now
+        (λ n. EntersOf S.Store token n input archive.old result archive.new) (HasNoSource input result) }
+{
+    match source {
+        NumberWord::Number(number) => enter_of(alloc, archive, token, *number, rows),
+        NumberWord::Reference(_) => match look_for_source(alloc, archive, source) {
+            Ok(number) => enter_of(alloc, archive, token, number, rows),
+            Err(kind) => Err(Refusal::from(kind)),
+        },
+    }
+}
+
+/// Enters rows of the source of this number.
+fn enter_of<S: Alter>(
+    alloc: Global,
+    archive: &mut Archive<S>,
+    token: Token,
+    source: u32,
+    rows: BatchRows,
+) -> Result<Answer, Refusal>
+    requires takes { is_shut archive.old ≡ false }
+    ensures { (input : Option (List ℕ)) → ReadsRows input rows
+        → EntersOf S.Store token source input archive.old result archive.new }
+{
     match look_for_numbers(alloc, archive, &rows) {
         Ok(numbers) => enter_numbered(alloc, archive, token, source, rows, numbers.as_slice()),
         Err(kind) => Err(Refusal::from(kind)),
     }
 }
 
-/// Asks an archive that takes no requests for a batch, which it refuses.
+/// Asks an archive that takes no requests for a batch, which it refuses, whatever its source.
 fn enter_shut<S: Alter>(
     alloc: Global,
     archive: &mut Archive<S>,
     token: Token,
-    source: u32,
 ) -> Result<Answer, Refusal>
     requires shut { is_shut archive.old ≡ true }
-    ensures { (input : Option (List ℕ)) → Enters S.Store token source input archive.old result archive.new }
+    ensures { (n : ℕ) (input : Option (List ℕ)) → EntersOf S.Store token n input archive.old result archive.new }
 {
     let rows = EntryRows::new(Vec::new(alloc));
-    perform_batch(alloc, archive, token, source, rows)
+    perform_batch(alloc, archive, token, ANY_SOURCE, rows)
 }
 
 /// Enters rows with these numbers.

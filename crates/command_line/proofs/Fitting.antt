@@ -46,8 +46,9 @@ use Rattle.command_line.specs.Asking.{
   is_table,
   is_table_fit,
   name_of,
+  word_in,
 }
-use Rattle.command_line.specs.Meanings.{number_word, order_named, records_named, set_named}
+use Rattle.command_line.specs.Meanings.{is_number, number_word, order_named, records_named, set_named}
 use Rattle.command_line.specs.Commands.{program}
 use Rattle.command_line.specs.declared.tasks.Asked.{Asked}
 use Rattle.command_line.specs.declared.tasks.Asked.TheVariants as asked
@@ -126,12 +127,24 @@ right_of : (left right : Bool) → (left && right) ≡ true → right ≡ true
 right_of true right e = e
 right_of false right e = absurd cc
 
+left_of : (left right : Bool) → (left && right) ≡ true → left ≡ true
+left_of true right e = refl
+left_of false right e = absurd cc
+
+-- where the words of entries are fit the word of their source gives a number
+pub source_fits : (found : Option (Text × List Row)) → are_entries_fit found ≡ true
+    → is_number (word_in found (codes "source")) ≡ true
+source_fits found fit = left_of (is_number (word_in found (codes "source")))
+    (if is_table found then is_table_fit found else is_batch_fit found) fit
+
 -- where the words of a table are fit it is read in a way that is one
 pub form_fits : (found : Option (Text × List Row)) → is_table found ≡ true → are_entries_fit found ≡ true
     → is_form_fit found ≡ true
 form_fits found is fit =
     right_of (is_checked found || is_some (given_in found (codes "token"))) (is_form_fit found)
-    (then_of (is_table found) (is_table_fit found) (is_batch_fit found) is fit)
+    (then_of (is_table found) (is_table_fit found) (is_batch_fit found) is
+    (right_of (is_number (word_in found (codes "source")))
+    (if is_table found then is_table_fit found else is_batch_fit found) fit))
 
 pages_there : (found : Option (Text × List Row)) (pages : RoomPages) → HasPages found pages
     → are_pages_fit found ≡ true
@@ -153,15 +166,18 @@ fit_of (asked.Apply file stops) found e has some =
     fit_by (asked.Apply file stops) found (codes "apply") e has (λ rows words. refl)
 fit_of (asked.Entries file source token) found e has some =
     fit_by (asked.Entries file source token) found (codes "entries") e has
-    (λ rows words. batch_there _ _ _ _ _ _ _ token.now words.3 words.4 words.7 words.2 words.5 words.6)
+    (λ rows words. both_true _ _ (there _ source words.1)
+    (batch_there _ _ _ _ _ _ _ token.now words.3 words.4 words.7 words.2 words.5 words.6))
 fit_of (asked.EnterTable file source form token) found e has some =
     fit_by (asked.EnterTable file source form token) found (codes "entries") e has
-    (λ rows words. tabled_there _ _ (is_batch_fit (Some (codes "entries", rows))) _ _ token.now words.2 words.4 words.5
-    (form_there (Some (codes "entries", rows)) form words.3))
+    (λ rows words. both_true _ _ (there _ source words.1)
+    (tabled_there _ _ (is_batch_fit (Some (codes "entries", rows))) _ _ token.now words.2 words.4 words.5
+    (form_there (Some (codes "entries", rows)) form words.3)))
 fit_of (asked.CheckTable file source form) found e has some =
     fit_by (asked.CheckTable file source form) found (codes "entries") e has
-    (λ rows words. table_there _ _ (is_batch_fit (Some (codes "entries", rows))) _ _ words.2 words.4
-    (form_there (Some (codes "entries", rows)) form words.3))
+    (λ rows words. both_true _ _ (there _ source words.1)
+    (table_there _ _ (is_batch_fit (Some (codes "entries", rows))) _ _ words.2 words.4
+    (form_there (Some (codes "entries", rows)) form words.3)))
 fit_of (asked.Import file token progress report) found e has some =
     fit_by (asked.Import file token progress report) found (codes "import") e has (λ rows words. refl)
 fit_of (asked.Export file) found e has some =

@@ -231,15 +231,15 @@ HasWords found (Init file society) = (file.now ≡ word_in found (codes "FILE"))
     × (society.now ≡ word_in found (codes "society"))
 HasWords found (Apply file stops) = (file.now ≡ word_in found (codes "FILE")) × (stops ≡ is_stop found)
 HasWords found (EntriesAsked file source token) =
-    (file.now ≡ word_in found (codes "FILE")) × (source ≡ number_of (word_in found (codes "source")))
+    (file.now ≡ word_in found (codes "FILE")) × (number_word (word_in found (codes "source")) ≡ Some source)
     × (given_in found (codes "token") ≡ Some token.now) × (is_table found ≡ false) × (is_checked found ≡ false)
     × (given_in found (codes "dates") ≡ None) × (given_in found (codes "from") ≡ None) × (is_making found ≡ false)
 HasWords found (EnterTable file source form token) =
-    (file.now ≡ word_in found (codes "FILE")) × (source ≡ number_of (word_in found (codes "source")))
+    (file.now ≡ word_in found (codes "FILE")) × (number_word (word_in found (codes "source")) ≡ Some source)
     × (is_table found ≡ true) × HasForm found form × (is_checked found ≡ false)
     × (given_in found (codes "token") ≡ Some token.now)
 HasWords found (CheckTable file source form) =
-    (file.now ≡ word_in found (codes "FILE")) × (source ≡ number_of (word_in found (codes "source")))
+    (file.now ≡ word_in found (codes "FILE")) × (number_word (word_in found (codes "source")) ≡ Some source)
     × (is_table found ≡ true) × HasForm found form × (is_checked found ≡ true)
 HasWords found (Import file token progress report) =
     (file.now ≡ word_in found (codes "FILE")) × (token.now ≡ word_in found (codes "token"))
@@ -336,13 +336,16 @@ is_form_fit found =
 abbrev pub is_table_fit : Option (Text × List Row) → Bool
 is_table_fit found = (is_checked found || is_some (given_in found (codes "token"))) && is_form_fit found
 
+-- and the word of the source gives a number
 abbrev pub are_entries_fit : Option (Text × List Row) → Bool
-are_entries_fit found = if is_table found then is_table_fit found else is_batch_fit found
+are_entries_fit found =
+    is_number (word_in found (codes "source"))
+    && (if is_table found then is_table_fit found else is_batch_fit found)
 
--- beside the grammar: entries are a batch or a table with a token, or a table that is checked, a sheet has a kind and a
--- day, a room has a day and a name only with HTML, a list has a kind, a search has words with letters or digits,
--- completions are of a shell, records are shown by numbers, and what is given of a kind, of a character set or of an
--- order of dates is one
+-- beside the grammar: entries are a batch or a table with a token, or a table that is checked, of a source that a
+-- number gives, a sheet has a kind and a day, a room has a day and a name only with HTML, a list has a kind, a search
+-- has words with letters or digits, completions are of a shell, records are shown by numbers, and what is given of a
+-- kind, of a character set or of an order of dates is one
 abbrev pub is_fit : Option (Text × List Row) → Bool
 is_fit found =
     if is_named found (codes "export") then is_export_fit found

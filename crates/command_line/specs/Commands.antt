@@ -53,9 +53,9 @@ record_rule = number_rule (codes "NO") 1 4294967295
 abbrev pub society_rule : Rule
 society_rule = needed_rule (codes "society")
 
--- `--source N`, a number of a record
+-- `--source N`, any word here
 abbrev pub source_rule : Rule
-source_rule = needed_number_rule (codes "source") 1 4294967295
+source_rule = needed_rule (codes "source")
 
 -- `--token T`
 abbrev pub token_rule : Rule

@@ -20,6 +20,11 @@ entered_table_words name =
     name ∷ codes "entries" ∷ codes "ashby.db" ∷ codes "--table" ∷ codes "--source" ∷ codes "3" ∷ codes "--dates"
     ∷ codes "dmy" ∷ codes "--token" ∷ codes "page-12" ∷ []
 
+-- the same with the source by a token
+abbrev pub referring_batch_words : Text → List Text
+referring_batch_words name =
+    name ∷ codes "entries" ∷ codes "ashby.db" ∷ codes "--source" ∷ codes "@s1" ∷ codes "--token" ∷ codes "page-12" ∷ []
+
 abbrev pub import_words : Text → List Text
 import_words name =
     name ∷ codes "import" ∷ codes "ashby.db" ∷ codes "--token" ∷ codes "first-file" ∷ []

@@ -58,12 +58,13 @@ pub(crate) const SOCIETY: Word = Word {
     numbers: None,
 };
 
+/// Whether it gives a number is judged where it is read.
 pub(crate) const SOURCE: Word = Word {
     id: "source",
-    help: "The number of the register's source, 1 to 4294967295",
+    help: "The number of the register's source, 1 to 4294967295, or @TOKEN",
     form: Form::Named("N"),
     needed: true,
-    numbers: Some((1, MOST_NUMBER)),
+    numbers: None,
 };
 
 pub(crate) const TOKEN: Word = Word {

@@ -145,6 +145,17 @@ fn source_given(alloc: Global, word: Option<&str>) -> Result<Option<NumberWord>,
     }
 }
 
+/// The number of a source that has to be given, as its word gives it. Refused if it gives none.
+pub(crate) fn source_of(alloc: Global, word: &str) -> Result<NumberWord, Refused>
+    ensures source { IfOk result (λ number. number_word word.now ≡ Some number) }
+    ensures taken { is_number word.now ≡ true → MatchResult result (λ _. ⊤) (λ refused. refused ≡ OutOfMemory) }
+{
+    match number_word(alloc, word)? {
+        Some(number) => Ok(number),
+        None => Err(no_number(alloc, word, "--source <N>")),
+    }
+}
+
 /// `find`: the records with a name that has the words. Refused where a word has no letter and no digit, or the kind is
 /// none.
 pub(crate) fn find_asked<'a>(alloc: Global, given: &ArgMatches<'a>) -> Result<Asked<'a>, Refused>

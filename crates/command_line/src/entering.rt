@@ -15,16 +15,16 @@ ghost use Rattle.command_line.specs.Asking.{
 ghost use Rattle.command_line.specs.Meanings.{order_named};
 ghost use Rattle.command_line.specs.declared.tasks.Refused.TheVariants.{OutOfMemory};
 
-use crate::choosing::set_given;
+use crate::choosing::{set_given, source_of};
 use crate::refusing::{no_table, no_table_token, no_token, no_value};
 use crate::tasks::{Asked, OrderName, Refused, TableWords};
-use crate::words::{given_word, is_yes, number_of, order_named, word_of};
+use crate::words::{given_word, is_yes, order_named, word_of};
 use clap::ArgMatches;
 use std::alloc::Global;
 
 /// `entries`: a batch under a token, with `--table` a table under a token, or with `--check` too a table that is looked
-/// over. Refused where a batch has no token or a word of tables, and where a table that is not checked has no token, or
-/// its character set or the order of its dates is none.
+/// over. Refused where the word of the source gives no number; where a batch has no token or a word of tables; and
+/// where a table that is not checked has no token, or its character set or the order of its dates is none.
 pub(crate) fn entries_asked<'a>(alloc: Global, given: &ArgMatches<'a>) -> Result<Asked<'a>, Refused>
     ensures asked { IfOk result (λ a. name_of a ≡ Some (codes "entries")) }
     ensures words { IfOk result (HasWords (Some (codes "entries", rows_of (found_of given.now)))) }
@@ -36,7 +36,7 @@ pub(crate) fn entries_asked<'a>(alloc: Global, given: &ArgMatches<'a>) -> Result
     let from = given_word(given, "from");
     let token = given_word(given, "token");
     let file = word_of(given, "FILE");
-    let source = number_of(word_of(given, "source"));
+    let source = source_of(alloc, word_of(given, "source"))?;
     if is_yes(word_of(given, "table")) {
         let form = form_given(alloc, given)?;
         if is_checked {

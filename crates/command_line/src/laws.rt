@@ -20,7 +20,7 @@ ghost use Rattle.command_line.specs.Asking.{
   kind_in,
   word_in,
 };
-ghost use Rattle.command_line.specs.Meanings.{number_of, number_up_to, order_named};
+ghost use Rattle.command_line.specs.Meanings.{number_of, number_up_to, number_word, order_named};
 ghost use Rattle.command_line.specs.Commands.{program};
 ghost use Rattle.command_line.specs.Examples.{
   batch_words,
@@ -31,6 +31,7 @@ ghost use Rattle.command_line.specs.Examples.{
   plain_words,
   public_plain_words,
   public_words,
+  referring_batch_words,
   reported_import_words,
   serve_words,
   sheet_words,
@@ -40,6 +41,7 @@ ghost use Rattle.command_line.specs.Examples.{
 };
 ghost use Rattle.command_line.specs.declared.tasks.OrderName.TheVariants.{DayFirst};
 ghost use Rattle.command_line.specs.declared.tasks.SheetKind.TheVariants.{Pedigree};
+ghost use Rattle.row_references.specs.declared.words.NumberWord.TheVariants.{Number, Reference};
 
 /// Each command is taken where it stands by itself after the program's name, whatever that is.
 pub fn each_command_is_taken()
@@ -59,15 +61,20 @@ pub fn rows_are_taken()
     ensures stops { (name : Text) → is_stop (subcommand_of program (stopping_words name)) ≡ true }
 {}
 
-/// A batch is taken as the help of `entries` shows it, and has the file, the source and the token that are shown there.
+/// A batch is taken as the help of `entries` shows it, and has the file, the source and the token that are shown there;
+/// and the source may be given by a token, as it is shown there too.
 pub fn a_batch_is_taken()
     ensures taken { (name : Text) → IsTaken (batch_words name) }
     ensures file { (name : Text) → word_in (subcommand_of program (batch_words name)) (codes "FILE")
         ≡ codes "ashby.db" }
-    ensures source { (name : Text) → number_of (word_in (subcommand_of program (batch_words name)) (codes "source"))
-        ≡ 3 }
+    ensures source { (name : Text) → number_word (word_in (subcommand_of program (batch_words name)) (codes "source"))
+        ≡ Some (Number 3) }
     ensures token { (name : Text) → word_in (subcommand_of program (batch_words name)) (codes "token")
         ≡ codes "page-12" }
+    ensures referring_taken { (name : Text) → IsTaken (referring_batch_words name) }
+    ensures referring_source { (name : Text)
+        → number_word (word_in (subcommand_of program (referring_batch_words name)) (codes "source"))
+        ≡ Some (Reference (codes "s1")) }
 {}
 
 /// A table that is checked is taken as the help of `entries` shows it, and has the file, the source and the order of
@@ -76,8 +83,8 @@ pub fn a_checked_table_is_taken()
     ensures taken { (name : Text) → IsTaken (table_words name) }
     ensures file { (name : Text) → word_in (subcommand_of program (table_words name)) (codes "FILE")
         ≡ codes "ashby.db" }
-    ensures source { (name : Text) → number_of (word_in (subcommand_of program (table_words name)) (codes "source"))
-        ≡ 3 }
+    ensures source { (name : Text) → number_word (word_in (subcommand_of program (table_words name)) (codes "source"))
+        ≡ Some (Number 3) }
     ensures table { (name : Text) → is_table (subcommand_of program (table_words name)) ≡ true }
     ensures checked { (name : Text) → is_checked (subcommand_of program (table_words name)) ≡ true }
     ensures order { (name : Text) → order_named (word_in (subcommand_of program (table_words name)) (codes "dates"))

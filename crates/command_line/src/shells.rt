@@ -153,7 +153,7 @@ macintosh ansel)'
     entries)
         _arguments '--help[Print help]' \\
             '1:The file of the archive:_files' \\
-            '--source[The number of the register'\\''s source, 1 to 4294967295]:N:' \\
+            '--source[The number of the register'\\''s source, 1 to 4294967295, or @TOKEN]:N:' \\
             '--token[The token of the request\\: 1 to 64 characters from `!` to `~`]:T:' \\
             '--table[The input is a table as a spreadsheet writes it, with a header row]' \\
             '--check[Look a table over, and enter nothing]' \\

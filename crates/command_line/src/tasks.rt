@@ -30,17 +30,17 @@ pub enum Asked<'a> {
         stops: bool,
     },
     /// `entries`: the rows of standard input as new register entries of a source of the archive in a file, under a
-    /// token. The token may be any word.
+    /// token. The token may be any word. The source, here and below, is given by its number, or by `@` and a token.
     Entries {
         file: &'a str,
-        source: u32,
+        source: NumberWord,
         token: &'a str,
     },
     /// `entries --table`: the rows of the table of standard input as new register entries of a source of the archive in
     /// a file, under a token, which may be any word.
     EnterTable {
         file: &'a str,
-        source: u32,
+        source: NumberWord,
         form: TableWords,
         token: &'a str,
     },
@@ -48,7 +48,7 @@ pub enum Asked<'a> {
     /// register entries of a source of the archive in a file, on standard output.
     CheckTable {
         file: &'a str,
-        source: u32,
+        source: NumberWord,
         form: TableWords,
     },
     /// `import`: the file of standard input taken into the archive in a file, under a token, and its report on standard

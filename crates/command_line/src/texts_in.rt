@@ -84,6 +84,7 @@ pub(crate) const ENTRIES_ABOUT: &str =
 pub(crate) const ENTRIES_EXAMPLE: &str = "\
 Each row is an entry of the register that is source N, as CSV without a header
 row: kind, page, item, date, place, text, and then role and name of each mention.
+N may be @TOKEN, the first number of the answer that is kept for TOKEN.
 All rows are entered or none: at a refusal nothing is, and it names the row. It
 prints `made <count> entries, first <first>` once the batch is kept in FILE. Who
 sends the same rows again under T gets the same line, and nothing is done twice.
@@ -91,8 +92,8 @@ sends the same rows again under T gets the same line, and nothing is done twice.
 Fields of a row; one with ? may be empty:
   kind,page?,item,date?,place?,text?,role,name[,role,name..]
 The kind is BAPTISM, MARRIAGE or BURIAL, the item 1 to 999999, the place the
-number of a place, or @TOKEN for the first number of the answer that is kept for
-TOKEN; 1 to 100 mentions, each a role of the kind and a name:
+number of a place, or @TOKEN as the source; 1 to 100 mentions, each a role of the
+kind and a name:
   BAPTISM   child, father, mother, godparent
   MARRIAGE  groom, bride, father-of-groom, father-of-bride, witness
   BURIAL    buried, spouse, father, mother
@@ -129,6 +130,7 @@ row <n>: <no.> <Name>: <column>: <cell>, and at the end
 
 Examples:
   parish entries ashby.db --source 3 --token page-12 < page12.csv
+  parish entries ashby.db --source @s1 --token page-12 < page12.csv
   parish entries ashby.db --table --check --source 3 --dates dmy < page12.csv
   parish entries ashby.db --table --source 3 --dates dmy --token page-12 < page12.csv";
 

@@ -6,6 +6,7 @@ use Rattle.command_line.specs.declared.tasks.TableWords.{TableWords}
 use Rattle.page_entries.specs.declared.dates.DateOrder.{DateOrder}
 use Rattle.page_entries.specs.declared.dates.DateOrder.TheVariants as order
 use Rattle.parish.specs.Converting.{set_of}
+use Rattle.row_references.specs.declared.words.NumberWord.{NumberWord}
 use Rattle.tasks.specs.declared.task.TableForm.{TableForm}
 use Rattle.tasks.specs.declared.task.Task.{Task}
 use Rattle.tasks.specs.declared.task.Task.TheVariants as task
@@ -22,9 +23,9 @@ form_of words = record {
   makes = words.makes;
 }
 
-abbrev pub table_task : ℕ → TableWords → Task
+abbrev pub table_task : NumberWord → TableWords → Task
 table_task source words = task.CheckTable source (form_of words)
 
 -- under a token
-abbrev pub entering_task : List ℕ → ℕ → TableWords → Task
+abbrev pub entering_task : List ℕ → NumberWord → TableWords → Task
 entering_task token source words = task.EnterTable token source (form_of words)

@@ -21,6 +21,7 @@ use command_line::{RoomPages, TableWords};
 use devices::Device;
 use receipts::Token;
 use record_text::RefusalKind;
+use row_references::NumberWord;
 use std::alloc::Global;
 use std::io::{Read, Write};
 use std::rt::HostRuntime;
@@ -67,7 +68,7 @@ pub(crate) fn enter<S: Openable, R: Read + Device, W: Write + Device, F: FaultSt
     rt: &HostRuntime,
     file: &str,
     token: &str,
-    source: u32,
+    source: NumberWord,
     start: S,
     input: &mut R,
     output: &mut W,
@@ -101,7 +102,7 @@ pub(crate) fn enter_table<S: Openable, R: Read + Device, W: Write + Device, F: F
     rt: &HostRuntime,
     file: &str,
     token: &str,
-    source: u32,
+    source: NumberWord,
     words: TableWords,
     start: S,
     input: &mut R,

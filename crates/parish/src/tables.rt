@@ -7,10 +7,11 @@ use crate::converting::asked;
 use command_line::{OrderName, TableWords};
 use page_entries::DateOrder;
 use receipts::Token;
+use row_references::NumberWord;
 use tasks::{TableForm, Task};
 
 /// The table of the input, whose rows would be entries of a source, read as the words say.
-pub(crate) fn table_task(source: u32, words: TableWords) -> Task
+pub(crate) fn table_task(source: NumberWord, words: TableWords) -> Task
     ensures { result ≡ tables.table_task source words }
 {
     Task::CheckTable {
@@ -20,7 +21,7 @@ pub(crate) fn table_task(source: u32, words: TableWords) -> Task
 }
 
 /// The same, entered under a token.
-pub(crate) fn entering_task(token: Token, source: u32, words: TableWords) -> Task
+pub(crate) fn entering_task(token: Token, source: NumberWord, words: TableWords) -> Task
     ensures { result ≡ tables.entering_task token source words }
 {
     Task::EnterTable {

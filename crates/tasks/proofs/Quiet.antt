@@ -27,6 +27,7 @@ use Rattle.archive_tables.specs.declared.checking.PageFound.TheVariants.{Checked
 use Rattle.archive_state.specs.Content.{Content}
 use Rattle.devices.specs.declared.device.Device as device
 use Rattle.record_text.specs.declared.refusal.RefusalText.{RefusalText}
+use Rattle.row_references.specs.declared.words.NumberWord.{NumberWord}
 use Rattle.tasks.specs.Ends.{ChecksTable, Does, Ends}
 use Rattle.tasks.proofs.Aloud.{far_quiet}
 use Rattle.tasks.specs.Checking.{Checking, SaysFound, as_checked}
@@ -105,7 +106,7 @@ module _ {S R W F : Type 0} (g : Ghosts S) (reader : read.Ghosts R) (reads : dev
   looked_quietly a b (Ok (Unread text)) o e said = subst (λ (q : Outcome). OnOk q (b.faults ≡ a.faults)) (sym e) tt
   looked_quietly a b (Err kind) o e said = on_ok o said
 
-  checked_quietly : (a b : Moment g R W F) (source : ℕ) (form : TableForm) (o : Outcome)
+  checked_quietly : (a b : Moment g R W F) (source : NumberWord) (form : TableForm) (o : Outcome)
       → ChecksTable g reader reads writer writes faulter fails a b source form o → OnOk o (b.faults ≡ a.faults)
   checked_quietly a b source form o (inl none) = on_ok o none.5
   checked_quietly a b source form o (inr did) = looked_quietly a b did.2.found o did.2.is did.2.said

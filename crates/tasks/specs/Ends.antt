@@ -31,7 +31,7 @@ use Rattle.sqlite_trees.specs.declared.store.Store.{Ghosts}
 use Rattle.table_looks.specs.Judging.{Audit, Judges, Tells, without_fault}
 use Rattle.archive_output.specs.Exporting.{IsPart, export_text}
 use Rattle.archive_output.specs.Reading.{OnOpen, OnlyReads, OnlyReadsAny}
-use Rattle.archive_tables.specs.Checks.{EndsChecking}
+use Rattle.archive_tables.specs.Checks.{EndsChecking, check_by}
 use Rattle.archive_tables.specs.Ends.{EndsWriting, OnRead, OnRows}
 use Rattle.archive_tables.specs.Remembering.{EndsHistory}
 use Rattle.archive_tables.specs.Texts.{list_of, shown_text}
@@ -42,13 +42,13 @@ use Rattle.archive_tables.specs.RowBatches.{Enters, IsNoBatch}
 use Rattle.archive_state.specs.Content.{Content}
 use Rattle.archive_state.specs.Looks.{is_failure}
 use Rattle.request_csv.specs.Input.{row_bytes}
+use Rattle.row_references.specs.declared.words.NumberWord.{NumberWord}
 use Rattle.archive_output.specs.Ends.{AreCut, AreReversed, AreWritten}
 use Rattle.devices.specs.Devices.{Rose}
 use Rattle.devices.specs.declared.device.Device as device
 use Rattle.archive_input.specs.Importing.{ImportsAll, IsUntold, TellsImported}
 use Rattle.archive_input.specs.Telling.{import_text}
 use Rattle.gedcom_export.specs.Ends.{IsWhole}
-use Rattle.page_checks.specs.Page.{page_check}
 use Rattle.page_entries.specs.declared.dates.DateOrder.{DateOrder}
 use Rattle.receipts.specs.declared.answer.Answer.{Answer}
 use Rattle.receipts.specs.declared.report.ReportLine.{ReportLine}
@@ -154,8 +154,8 @@ module _ {S R W F : Type 0} (g : Ghosts S) (reader : read.Ghosts R) (reads : dev
         (row_bytes (reader.remaining a.input)) (RowsAt a) (RowsAt b))
     pub blamed : IfErr r IsBlamed
 
-  -- ---- a batch of register entries, under a token, of a source
-  abbrev pub Batch : List ℕ → ℕ → Result Answer Refusal → Type 0
+  -- ---- a batch of register entries, under a token, of a source whose number a word gives
+  abbrev pub Batch : List ℕ → NumberWord → Result Answer Refusal → Type 0
   Batch token source o = Enters g token source (row_bytes (reader.remaining a.input)) a.archive o b.archive
 
   -- the rows are no batch, and the archive is as it was
@@ -164,7 +164,7 @@ module _ {S R W F : Type 0} (g : Ghosts S) (reader : read.Ghosts R) (reads : dev
 
   -- all rows were entered, and how many was printed; or why not: they are no batch, or it was refused, and nothing is
   -- printed; or it was entered, and of its line a prefix is printed
-  pub record EntersBatch (token : List ℕ) (source : ℕ) (outcome : Outcome) : Type 0 where
+  pub record EntersBatch (token : List ℕ) (source : NumberWord) (outcome : Outcome) : Type 0 where
     pub entered : OnOk outcome ((answer : Answer) × Batch token source (Ok answer) × Prints (made_text answer))
     pub refused : IfErr outcome (λ t. ((Batch token source (Err t.refusal) ⊎ NoBatch t.refusal) × PrintsNothing)
         ⊎ ((answer : Answer) × (kind : RefusalKind) × (t ≡ placeless_text kind) × Batch token source (Ok answer)
@@ -178,11 +178,11 @@ module _ {S R W F : Type 0} (g : Ghosts S) (reader : read.Ghosts R) (reads : dev
 
   -- this text was looked over: a line for all that is wrong or doubtful was printed, or a prefix of that; or the
   -- faults got why they are no table
-  pub record LooksOver (source : ℕ) (form : TableForm) (text : List ℕ) (outcome : Outcome) : Type 0 where
+  pub record LooksOver (source : NumberWord) (form : TableForm) (text : List ℕ) (outcome : Outcome) : Type 0 where
     pub found : Checking
     pub is : outcome ≡ as_checked found
     pub ended : OnRead (state g a.archive.conn) (state g b.archive.conn) (λ c. EndsChecking found
-        (writer.contents a.output) (writer.contents b.output) (page_check c source form.order form.makes text))
+        (writer.contents a.output) (writer.contents b.output) (check_by c source form.order form.makes text))
     pub said : SaysFound faulter.contents fails.failed found a.faults b.faults
     pub unread : IfErr found (λ kind. is_failure kind ≡ true → PrintsNothing)
     pub blamed : IfErr found (λ kind. kind ≡ WriteFailed → HasWriteFailed)
@@ -190,25 +190,25 @@ module _ {S R W F : Type 0} (g : Ghosts S) (reader : read.Ghosts R) (reads : dev
     pub lost : b.archive.is_lost ≡ has_broken found
 
   -- the table of the input was looked over, whether the archive is sound or not; or it was not read
-  abbrev pub ChecksTable : ℕ → TableForm → Outcome → Type 0
+  abbrev pub ChecksTable : NumberWord → TableForm → Outcome → Type 0
   ChecksTable source form outcome = IsNoTable outcome
       ⊎ ((text : List ℕ) × IsText form.set (reader.remaining a.input) text × LooksOver source form text outcome)
 
   -- ---- a table that is entered, under a token
   -- this was made of it, or why it was refused
-  abbrev pub PageAt : List ℕ → ℕ → Option DateOrder → List ℕ → PageEntering → Type 0
+  abbrev pub PageAt : List ℕ → NumberWord → Option DateOrder → List ℕ → PageEntering → Type 0
   PageAt token source order text r = EntersPage g token source order text a.archive r b.archive
 
   -- this text was entered, all rows or none, and it was said what it has come to
-  abbrev pub EntersText : List ℕ → ℕ → Option DateOrder → List ℕ → Outcome → Type 0
+  abbrev pub EntersText : List ℕ → NumberWord → Option DateOrder → List ℕ → Outcome → Type 0
   EntersText token source order text outcome =
       (r : PageEntering) × PageAt token source order text r
       × SaysPage writer.contents writes.failed faulter.contents fails.failed outcome a.output b.output a.faults
       b.faults r
 
   -- the same, where the places that it lacks were made first, and the faults got a line for each of them
-  pub record MakesText (token : List ℕ) (source : ℕ) (order : Option DateOrder) (text : List ℕ) (outcome : Outcome)
-      : Type 0 where
+  pub record MakesText (token : List ℕ) (source : NumberWord) (order : Option DateOrder) (text : List ℕ)
+      (outcome : Outcome) : Type 0 where
     pub made : List MadePlace
     pub r : PageEntering
     pub entered : EntersPlaced g token source order text a.archive made r b.archive
@@ -217,12 +217,12 @@ module _ {S R W F : Type 0} (g : Ghosts S) (reader : read.Ghosts R) (reads : dev
     pub said : SaysPage writer.contents writes.failed faulter.contents fails.failed outcome a.output b.output between
         b.faults r
 
-  abbrev pub EntersBy : Bool → List ℕ → ℕ → Option DateOrder → List ℕ → Outcome → Type 0
+  abbrev pub EntersBy : Bool → List ℕ → NumberWord → Option DateOrder → List ℕ → Outcome → Type 0
   EntersBy false token source order text outcome = EntersText token source order text outcome
   EntersBy true token source order text outcome = MakesText token source order text outcome
 
   -- the table of the input was entered, or refused; or it was not read
-  abbrev pub EntersTable : List ℕ → ℕ → TableForm → Outcome → Type 0
+  abbrev pub EntersTable : List ℕ → NumberWord → TableForm → Outcome → Type 0
   EntersTable token source form outcome = IsNoTable outcome
       ⊎ ((text : List ℕ) × IsText form.set (reader.remaining a.input) text
       × EntersBy form.makes token source form.order text outcome)

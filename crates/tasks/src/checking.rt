@@ -15,6 +15,7 @@ use character_sets::CharacterSet;
 use devices::{Device, TransferError, read_up_to};
 use page_texts::page_text;
 use record_text::{RefusalKind, RefusalText};
+use row_references::NumberWord;
 use sqlite::Alter;
 use std::alloc::Global;
 use std::io::{Read, Write};
@@ -31,7 +32,7 @@ const MOST: usize = 67_108_864;
 pub(crate) fn check_table<S: Alter, R: Read + Device, W: Write + Device, F: FaultStream>(
     alloc: Global,
     archive: &mut Archive<S>,
-    source: u32,
+    source: &NumberWord,
     form: TableForm,
     input: &mut R,
     output: &mut W,
@@ -41,7 +42,7 @@ pub(crate) fn check_table<S: Alter, R: Read + Device, W: Write + Device, F: Faul
     ensures { ChecksTable S.Store R.Read R.Device W.Write W.Device F.Write F.Device
         (record { archive = archive.old; input = input.old; output = output.old; faults = faults.old })
         (record { archive = archive.new; input = input.new; output = output.new; faults = faults.new })
-        source form result }
+        source.now form result }
 {
     match read_table(alloc, form.set, input) {
         Ok(text) => {

@@ -17,6 +17,7 @@ use archive_tables::enter;
 use devices::Device;
 use receipts::{Answer, Token};
 use record_text::{RefusalKind, RefusalText, Unit};
+use row_references::NumberWord;
 use sqlite::Alter;
 use std::alloc::{AllocError, Global};
 use std::io::{Read, Write};
@@ -30,19 +31,19 @@ pub(crate) fn enter_batch<S: Alter, R: Read + Device, W: Write + Device>(
     alloc: Global,
     archive: &mut Archive<S>,
     token: Token,
-    source: u32,
+    source: &NumberWord,
     input: &mut R,
     output: &mut W,
 ) -> Result<(), RefusalText>
     ensures entered { OnOk result ((answer : SpecAnswer)
-        × Enters S.Store token source (row_bytes (R.remaining input.old)) archive.old (Ok answer) archive.new
+        × Enters S.Store token source.now (row_bytes (R.remaining input.old)) archive.old (Ok answer) archive.new
         × Appends (W.contents output.old) (W.contents output.new) (made_text answer)) }
-    ensures refused { IfErr result (λ t. ((Enters S.Store token source (row_bytes (R.remaining input.old)) archive.old
-        (Err t.refusal) archive.new
+    ensures refused { IfErr result (λ t. ((Enters S.Store token source.now (row_bytes (R.remaining input.old))
+        archive.old (Err t.refusal) archive.new
         ⊎ ((archive.new ≡ archive.old) × IsNoBatch (row_bytes (R.remaining input.old)) t.refusal
         (Rose (R.failed input.old) (R.failed input.new)))) × Keeps (W.contents output.old) (W.contents output.new))
         ⊎ ((answer : SpecAnswer) × (kind : SpecKind) × (t ≡ placeless_text kind)
-        × Enters S.Store token source (row_bytes (R.remaining input.old)) archive.old (Ok answer) archive.new
+        × Enters S.Store token source.now (row_bytes (R.remaining input.old)) archive.old (Ok answer) archive.new
         × IsPrintedPart (made_text answer) kind (W.contents output.old) (W.contents output.new)
         (Rose (W.failed output.old) (W.failed output.new)))) }
 {

@@ -104,7 +104,7 @@ fn do_task<S: Alter, C: Clock, R: Read + Device, W: Write + Device, F: FaultStre
             None,
         ),
         Task::Entries { token, source } => (
-            enter_batch(alloc, archive, token, source, input, output),
+            enter_batch(alloc, archive, token, &source, input, output),
             None,
         ),
         Task::EnterTable {
@@ -112,11 +112,11 @@ fn do_task<S: Alter, C: Clock, R: Read + Device, W: Write + Device, F: FaultStre
             source,
             form,
         } => (
-            enter_table(alloc, archive, token, source, form, input, output, faults),
+            enter_table(alloc, archive, token, &source, form, input, output, faults),
             None,
         ),
         Task::CheckTable { source, form } => (
-            check_table(alloc, archive, source, form, input, output, faults),
+            check_table(alloc, archive, &source, form, input, output, faults),
             None,
         ),
         Task::Import { token, progress } => (

@@ -25,6 +25,7 @@ use page_batches::BatchRefusal;
 use page_checks::page_lines;
 use receipts::{Answer, Token};
 use record_text::{RefusalKind, RefusalText, Unit};
+use row_references::NumberWord;
 use searching::shown;
 use sqlite::Alter;
 use std::alloc::{AllocError, Global};
@@ -48,7 +49,7 @@ pub(crate) fn enter_table<S: Alter, R: Read + Device, W: Write + Device, F: Faul
     alloc: Global,
     archive: &mut Archive<S>,
     token: Token,
-    source: u32,
+    source: &NumberWord,
     form: TableForm,
     input: &mut R,
     output: &mut W,
@@ -58,7 +59,7 @@ pub(crate) fn enter_table<S: Alter, R: Read + Device, W: Write + Device, F: Faul
     ensures { EntersTable S.Store R.Read R.Device W.Write W.Device F.Write F.Device
         (record { archive = archive.old; input = input.old; output = output.old; faults = faults.old })
         (record { archive = archive.new; input = input.new; output = output.new; faults = faults.new })
-        token source form result }
+        token source.now form result }
 {
     match read_table(alloc, form.set, input) {
         Ok(text) => {

@@ -25,21 +25,22 @@ pub enum Task {
     Apply,
     /// The same of the rows up to the first that is refused.
     ApplyUntilRefused,
-    /// The rows of the input as register entries of a source, under a token, all of them or none.
+    /// The rows of the input as register entries of a source, under a token, all of them or none. The source, here and
+    /// below, is given by its number or by a token.
     Entries {
         token: Token,
-        source: u32,
+        source: NumberWord,
     },
     /// The table of the input as register entries of a source, under a token, all its rows or none.
     EnterTable {
         token: Token,
-        source: u32,
+        source: NumberWord,
         form: TableForm,
     },
     /// What is wrong or doubtful in the table of the input, whose rows would be register entries of a source, on the
     /// output.
     CheckTable {
-        source: u32,
+        source: NumberWord,
         form: TableForm,
     },
     /// The GEDCOM file of the input, whole or not at all, under a token. With `progress` the faults get how far it is.

@@ -1,19 +1,9 @@
-use Rattle.std.proofs.Common.{List, inr, subst, ℕ}
-use Rattle.archive_tables.specs.Making.{EntersTried}
+use Rattle.std.proofs.Common.{inr}
 use Rattle.archive_tables.proofs.making.enter_with_places.Goals as goal
 
-pub returns-in-Ok : goal.returns-in-Ok
-returns-in-Ok g c = inr (
+pub returns-in-Ok-Ok : goal.returns-in-Ok-Ok
+returns-in-Ok-Ok g c = inr (
   c.in-Ok-Ok.entries.items,
   rw c.in-Ok-Ok.field-0-is at c.in-Ok-Ok.ensures,
-  inr (record {
-    between = c.try_page.new.archive;
-    paths = c.in-Ok.paths;
-    reads = c.try_page.ensures.reads;
-    kept = c.in-Ok.ensures.kept;
-    right = c.in-Ok.ensures.tried;
-    entered = subst (λ (ps : List (List ℕ)). EntersTried g.S.Store c.args.token c.args.source c.args.order
-        c.args.bytes.now ps c.try_page.new.archive c.enter_tried.new.made.items c.enter_tried.result
-        c.enter_tried.new.archive) c.fields.ensures c.enter_tried.ensures;
-  }),
+  c.enter_sourced.ensures,
 )

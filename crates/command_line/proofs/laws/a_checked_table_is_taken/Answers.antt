@@ -2,10 +2,11 @@ use Rattle.std.proofs.Common.{◌≡◌, [], Some, codes, refl, true}
 use Rattle.clap.specs.Words.{Text, fault_of, subcommand_of}
 use Rattle.clap.proofs.OnLiterals.{clap_on_literals}
 use Rattle.command_line.specs.Asking.{is_checked, is_fit, is_table, word_in}
-use Rattle.command_line.specs.Meanings.{number_of, order_named}
+use Rattle.command_line.specs.Meanings.{number_word, order_named}
 use Rattle.command_line.specs.Commands.{program}
 use Rattle.command_line.specs.Examples.{table_words}
 use Rattle.command_line.specs.declared.tasks.OrderName.TheVariants.{DayFirst}
+use Rattle.row_references.specs.declared.words.NumberWord.TheVariants.{Number}
 use Rattle.command_line.proofs.laws.a_checked_table_is_taken.Goals as goal
 
 no_fault : (name : Text) → fault_of program (table_words name) ≡ []
@@ -20,7 +21,8 @@ has_file : (name : Text) → word_in (subcommand_of program (table_words name)) 
 unfolding clap_on_literals
 has_file name = refl
 
-has_source : (name : Text) → number_of (word_in (subcommand_of program (table_words name)) (codes "source")) ≡ 3
+has_source : (name : Text) → number_word (word_in (subcommand_of program (table_words name)) (codes "source"))
+    ≡ Some (Number 3)
 unfolding clap_on_literals
 has_source name = refl
 

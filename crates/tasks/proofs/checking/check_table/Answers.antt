@@ -1,8 +1,7 @@
 use Rattle.std.proofs.Common.{ℕ, List, inr, subst}
 use Rattle.sqlite.specs.Held.{state}
-use Rattle.archive_tables.specs.Checks.{EndsChecking}
+use Rattle.archive_tables.specs.Checks.{EndsChecking, check_by}
 use Rattle.archive_tables.specs.Ends.{OnRead}
-use Rattle.page_checks.specs.Page.{page_check}
 use Rattle.tasks.proofs.checking.check_table.Goals as goal
 
 pub returns-in-Ok : goal.returns-in-Ok
@@ -11,7 +10,7 @@ returns-in-Ok g c =
     let ended = subst (λ (bs : List ℕ). OnRead (state g.S.Store c.args.archive.now.conn)
     (state g.S.Store c.write_check-found.new.archive.conn) (λ k. EndsChecking c.write_check-found.result
     (g.W.Write.contents c.args.output.now) (g.W.Write.contents c.write_check-found.new.writer)
-    (page_check k c.args.source c.args.form.order c.args.form.makes bs))) c.deref.ensures.value did.ended in
+    (check_by k c.args.source.now c.args.form.order c.args.form.makes bs))) c.deref.ensures.value did.ended in
     inr (
       c.in-Ok.text.items,
       c.in-Ok.ensures.text,

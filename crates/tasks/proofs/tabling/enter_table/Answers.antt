@@ -7,7 +7,7 @@ use Rattle.tasks.proofs.tabling.enter_table.Goals as goal
 
 pub returns-then-form : goal.returns-then-form
 returns-then-form g c =
-    let did = subst (λ (bs : List ℕ). EntersPlaced g.S.Store c.args.token c.args.source c.args.form.order bs
+    let did = subst (λ (bs : List ℕ). EntersPlaced g.S.Store c.args.token c.args.source.now c.args.form.order bs
     c.args.archive.now c.enter_with_places-end.new.made.items c.enter_with_places-end.result
     c.enter_with_places-end.new.archive) c.deref.ensures.value c.enter_with_places-end.ensures in
     let told = subst (λ (ms : List MadePlace). SaysPlaces g.F.Write.contents g.F.Device.failed c.args.faults.now
@@ -27,7 +27,7 @@ returns-then-form g c =
 
 pub returns-else-form : goal.returns-else-form
 returns-else-form g c =
-    let did = subst (λ (bs : List ℕ). EntersPage g.S.Store c.args.token c.args.source c.args.form.order bs
+    let did = subst (λ (bs : List ℕ). EntersPage g.S.Store c.args.token c.args.source.now c.args.form.order bs
     c.args.archive.now c.enter_page-end.result c.enter_page-end.new.archive) c.deref-in-Ok.ensures.value
     c.enter_page-end.ensures in
     inr (
