@@ -12,9 +12,10 @@ import subprocess
 import tempfile
 import time
 
+from failing import compiled, failing
 from harness import (
-    ROOT, Case, Outcome, Tools, close_output_of, demand, difference, expect, pipe_without_reader, refused, refused_row,
-    run, shown, written,
+    CAUSES, ROOT, Case, Outcome, Tools, close_output_of, demand, difference, expect, hinted, pipe_without_reader,
+    refused, refused_row, run, shown, unopened, written,
 )
 from packed import PACKS, each_line
 
@@ -367,7 +368,7 @@ def a_file_with_two_names(tools):
         other = os.path.join(at.path, "other.db")
         os.link(at.file, other)
         for at.file in (at.file, other):
-            expect(at.apply(b"b,person,Eva,F\n"), refused(80))
+            expect(at.apply(b"b,person,Eva,F\n"), unopened("second name"))
         os.remove(other)
         at.file = os.path.join(at.path, "ashby.db")
         answered(at.apply(b"b,person,Eva,F\n"), b"b,ok,2,1\n")
@@ -437,13 +438,13 @@ def a_folder_as_file(tools):
     with Folder(tools) as at:
         os.mkdir(at.file)
         for got in (at.init(), at.apply()):
-            expect(got, refused(80))
+            expect(got, unopened("folder, or"))
 
 
 def a_folder_that_is_not_there(tools):
     with Folder(tools) as at:
         at.file = os.path.join(at.path, "none", "ashby.db")
-        expect(at.init(), refused(80))
+        expect(at.init(), unopened("does not exist"))
         expect(at.apply(), refused(82))
 
 
@@ -453,7 +454,7 @@ def a_file_that_is_no_database(tools):
             with open(at.file, "wb") as file:
                 file.write(b"x" * size)
             for got in (at.init(), at.apply()):
-                expect(got, refused(80))
+                expect(got, unopened("no database"))
             with open(at.file, "rb") as file:
                 demand(file.read() == b"x" * size, "the file changed")
 
@@ -477,8 +478,8 @@ def two_programs_at_once(tools):
             first.stdin.write(b"a,person,Ann,F\n")
             first.stdin.flush()
             demand(first.stdout.readline() == b"a,ok,1,1\n", "the first is not answered")
-            expect(at.apply(b"b,person,Eva,F\n"), refused(80))
-            expect(run(at.parish, ("export", at.file)), refused(80))
+            expect(at.apply(b"b,person,Eva,F\n"), unopened("another program"))
+            expect(run(at.parish, ("export", at.file)), unopened("another program"))
             first.stdin.write(b"c,person,Eve,F\n")
             first.stdin.close()
             demand(first.stdout.read() == b"c,ok,2,1\n", "the first does not go on")
@@ -593,6 +594,22 @@ def a_full_disk(tools):
         expect(got, Outcome(lines(answers[:done]), refused(80).err, 1))
         demand(done < 100, "nothing was stopped")
         answered(at.apply(lines(rows)), lines(answers))
+
+
+def no_place_on_the_disk(tools):
+    """If the system says that the disk is full, a second hint of 80 does so; what was answered is kept."""
+    with Folder(tools) as at:
+        at.made()
+        log, mark = f"{at.file}-wal", os.path.join(at.path, "failed")
+        how = {**failing(compiled(at.path), log, 60, mark), "FAIL_FULL": "1"}
+        rows = [f"t{n},person,Ann /{n}/,F" for n in range(1, 21)]
+        got = run(at.parish, ("apply", at.file), lines(rows), env=how)
+        demand(os.path.exists(mark), "no call failed")
+        told = refused(80).err + hinted(CAUSES["no place"]).encode()
+        demand((got.status, got.err) == (1, told), f"{got}")
+        answers = lines([f"t{n},ok,{n},1" for n in range(1, 21)])
+        demand(answers.startswith(got.out) and got.out != answers, f"{got}")
+        answered(at.apply(lines(rows)), answers)
 
 
 def generated(seed, count, *how):
@@ -837,6 +854,7 @@ TESTS = (
     a_copy_is_an_archive,
     init_takes_no_input,
     a_full_disk,
+    no_place_on_the_disk,
 )
 
 

@@ -82,8 +82,8 @@ def told_of(at, subject, words, name):
     """40 with status 1 and nothing on standard output; before it, where the lines are records, what is wrong."""
     got = at.audit()
     demand((got.status, got.out) == (1, b""), f"{name}: {got}")
-    *told, last = got.err.decode().splitlines()
-    demand(last == refused(40).err.decode().strip(), f"{name}: {got.err!r}")
+    *told, last, hint = got.err.decode().splitlines(keepends=True)
+    demand(last + hint == refused(40).err.decode(), f"{name}: {got.err!r}")
     if words:
         is_told = len(told) == 1 and subject in told[0] and words in told[0]
         demand(is_told, f"{name}: wanted {subject}: .. {words}, got {told}")

@@ -13,6 +13,7 @@ from __future__ import annotations
 
 import argparse
 import collections
+import dataclasses
 import io
 import multiprocessing
 import os
@@ -24,7 +25,7 @@ import time
 sys.dont_write_bytecode = True
 
 import generate  # noqa: E402
-from harness import ROOT, Failed, Outcome, expect  # noqa: E402
+from harness import ROOT, Failed, Outcome, expect, without_hints  # noqa: E402
 
 OURS = os.path.join(ROOT, "crates", "parish", "out", "parish")
 SHORT = 150  # bytes of a file that is compared cut everywhere
@@ -100,7 +101,7 @@ class Worker:
             for word in ("norm",) if place else ("norm", "check"):
                 mine, other = (read(word, data) for read in self.readers)
                 try:
-                    expect(mine, other)
+                    expect(dataclasses.replace(mine, err=without_hints(mine.err)), other)
                 except Failed as failed:
                     wrong.append(f"file {number}{place}: {word}: {failed}")
             found["cut" if place else kind(mine)] += 1

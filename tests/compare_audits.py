@@ -24,7 +24,7 @@ import tempfile
 sys.dont_write_bytecode = True
 
 from beside import links_of, sought_of  # noqa: E402
-from harness import ROOT  # noqa: E402
+from harness import ROOT, without_hints  # noqa: E402
 from packed import lines_of, put_lines, row_of, unpack  # noqa: E402
 
 OURS = os.path.join(ROOT, "crates", "parish", "out", "parish")
@@ -201,7 +201,7 @@ def ours(parish, file):
     ran = subprocess.run([*parish, "audit", file], capture_output=True, check=False)
     if ran.returncode == 0:
         return "sound", ran.stdout
-    return ("not" if ran.stderr.endswith(b"40 BadStored\n") else "other"), ran.stderr
+    return ("not" if without_hints(ran.stderr).endswith(b"40 BadStored\n") else "other"), ran.stderr
 
 
 def main():

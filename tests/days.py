@@ -7,7 +7,7 @@ import os
 import sqlite3
 
 from ends import each_growth_refused, left_by_its_reader, refused_as_no_archive
-from harness import Case, Tools, demand, expect, pipe_without_reader, refused, run, written
+from harness import Case, Tools, demand, expect, pipe_without_reader, refused, run, unopened, written
 from imports import Imported
 
 # Rows of a new archive, which are its records 1 to 14. What has no date, or one without an end, is never found.
@@ -172,8 +172,8 @@ def another_program_has_it(tools):
         conn = sqlite3.connect(at.file, isolation_level=None)
         try:
             conn.execute("BEGIN EXCLUSIVE")
-            expect(at.days(), refused(80))
-            expect(at.told(), refused(80))
+            expect(at.days(), unopened("another program"))
+            expect(at.told(), unopened("another program"))
         finally:
             conn.close()
         expect(at.days("1799-03-03", "1799-03-03"), written(b"5\n"))

@@ -5,7 +5,7 @@ from __future__ import annotations
 import os
 import subprocess
 
-from harness import demand, expect, refused
+from harness import WANTS, demand, expect, refused, unopened
 from memory import apart
 from refusing import built, refusing
 
@@ -20,7 +20,7 @@ def refused_as_no_archive(folder, tools, *calls):
         with open(at.file, "wb") as file:
             file.write(b"x" * 5_000)
         for call in calls:
-            expect(call(at), refused(80))
+            expect(call(at), unopened("no database"))
     with folder(tools) as at:
         at.made().other_database("UPDATE meta SET version = 3")
         for call in calls:
@@ -62,7 +62,7 @@ def each_growth_refused(at, *calls):
                 break
             os.remove(mark)
             unharmed += got == whole
-            is_told = got.status == 1 and got.err in (refused(1).err, refused(80).err)
+            is_told = got.status == 1 and got.err in WANTS
             demand(
                 is_told and whole.out.startswith(got.out) or got == whole and unharmed <= SPARE,
                 f"growth {number}: {got}",

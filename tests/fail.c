@@ -1,7 +1,7 @@
 /* Fails calls of a program on a file or a stream. Loaded before the C library (LD_PRELOAD), it takes
    the place of the calls that read, write, measure, cut and sync, and passes each on, but for those
    on what the environment variable FAIL_ON names: FAIL_AFTER of them go well, and each after them
-   fails and does nothing; with FAIL_ONCE only the next one. When the first fails, the file that FAILED
+   fails and does nothing, with FAIL_FULL as on a full disk; with FAIL_ONCE only the next one. When the first fails, the file that FAILED
    names is made.
 
    FAIL_ON is a whole path, or `in`, `out`, `room` for standard input, standard output and connections.
@@ -76,7 +76,7 @@ static int fails(int fd)
         return 0;
     if (over == 0 && mark)
         syscall(SYS_close, syscall(SYS_openat, AT_FDCWD, mark, O_WRONLY | O_CREAT, 0600));
-    errno = EIO;
+    errno = getenv("FAIL_FULL") ? ENOSPC : EIO;
     return 1;
 }
 

@@ -5,7 +5,7 @@ Each expected line is written by hand from docs/FORMATS.md, "The faults of a fil
 
 from __future__ import annotations
 
-from harness import Case, Outcome, Tools, expect, refused, run, written
+from harness import Case, Outcome, Tools, by_number, expect, refused, run, written
 from table.making import HEAD, LARGEST, LONGEST, LONGEST_TEXT, MARK, TRLR, between, lines
 
 WORDS = ("check", "--all")
@@ -169,7 +169,7 @@ def refusal(found):
 def lists(tools, given, found, more=0):
     """The list, and the first of it as the refusal, which is that of `check` too."""
     expect(run(tools.parish, WORDS, given), Outcome(listing(found, more), refusal(found), 1))
-    expect(run(tools.parish, ("check",), given), Outcome(b"", refusal(found), 1))
+    expect(by_number(run(tools.parish, ("check",), given)), Outcome(b"", refusal(found), 1))
 
 
 def many(tools, number):

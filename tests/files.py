@@ -8,7 +8,7 @@ from __future__ import annotations
 
 import re
 
-from harness import Case, Outcome, Tools, counted, expect, run, written
+from harness import Case, Outcome, Tools, by_number, counted, expect, run, without_hints, written
 from table import deciding, lines, names, order, structure, values
 from table.making import MARK
 
@@ -51,20 +51,20 @@ def in_pieces(given: bytes, wanted: Outcome) -> Outcome:
     output and what decides it."""
     if wanted.status == 0:
         return written(wanted.out + f"lines {node_lines(given)}\n".encode())
-    told = wanted.err.removeprefix(b"parish: ")
+    told = without_hints(wanted.err).removeprefix(b"parish: ")
     byte = deciding_byte(given, int(told.split()[-1]))
     place = "at the end" if byte is None else f"at byte {byte}"
     return Outcome(told + f"decided {place}\n".encode(), b"", 1)
 
 
 def norm(tools: Tools, given: bytes, wanted: Outcome) -> None:
-    expect(run(tools.parish, ("norm",), given), wanted)
+    expect(by_number(run(tools.parish, ("norm",), given)), wanted)
     if wanted.status == 0 and wanted.out != given:
         expect(run(tools.parish, ("norm",), wanted.out), wanted)
 
 
 def check(tools: Tools, given: bytes, wanted: Outcome) -> None:
-    expect(run(tools.parish, ("check",), given), counted(wanted))
+    expect(by_number(run(tools.parish, ("check",), given)), counted(wanted))
 
 
 def pieces(tools: Tools, given: bytes, wanted: Outcome) -> None:

@@ -3,13 +3,15 @@
 from __future__ import annotations
 
 import contextlib
+import functools
 import os
+import re
 import select
 import subprocess
 import threading
 import time
 from collections.abc import Callable, Iterable, Iterator
-from dataclasses import dataclass
+from dataclasses import dataclass, replace
 
 ROOT = os.path.dirname(os.path.dirname(os.path.abspath(__file__)))
 LIMIT = 60  # seconds for one run
@@ -112,19 +114,87 @@ def shown(data: bytes) -> str:
     return text if len(text) <= SHOWN else f"{text[:SHOWN]}.. ({len(data)} bytes)"
 
 
+def text_of(path: str) -> str:
+    with open(os.path.join(ROOT, path), encoding="utf-8") as file:
+        return file.read()
+
+
+@functools.cache
+def hints() -> dict[int, str]:
+    """The hint of each number that has one, by the table in docs/REFUSALS.md."""
+    section = text_of("docs/REFUSALS.md").split("\n### The hints\n")[1].split("\n### ")[0]
+    return {int(number): text for number, text in re.findall(r"^\| (\d+) \| (.+) \|$", section, re.M)}
+
+
+@functools.cache
+def hints_of_80() -> list[str]:
+    """The hints of 80 if the file of an archive is not opened or made, by the same document."""
+    section = text_of("docs/REFUSALS.md").split("\n### The hints of 80\n")[1].split("\n## ")[0]
+    return re.findall(r"^\| ([^|]+) \| [^|]+ \|$", section, re.M)[1:]
+
+
+def hint_of(number: int) -> str:
+    """The hint of a number, as it is printed; empty where it has none."""
+    return hinted(hints()[number]) if number in hints() else ""
+
+
 def named(number: int, line: int | None = None) -> str:
     """A refusal as it is told: number, name and, where it has one, its line."""
     return f"{number} {REFUSALS[number]}" + ("" if line is None else f" at line {line}")
 
 
+def hinted(text: str) -> str:
+    """A hint as it is printed."""
+    return f"  {text}\n"
+
+
+def without_hints(err: bytes) -> bytes:
+    """What standard error got, without the hints of a refusal, which a second reader has not."""
+    return re.sub(rb"(?m)^  .*\n", b"", err)
+
+
 def refused(number: int, line: int | None = None) -> Outcome:
-    """What a run that is refused before it writes comes to."""
-    return Outcome(b"", f"parish: {named(number, line)}\n".encode(), 1)
+    """What a run that is refused before it writes comes to, with the hint that the document has for the number."""
+    return Outcome(b"", f"parish: {named(number, line)}\n{hint_of(number)}".encode(), 1)
+
+
+def by_number(got: Outcome) -> Outcome:
+    """The same run, with the hint of 29 for what CHAR says, of which at most 60 characters are shown."""
+    says = re.compile(r"  CHAR is[^\x00-\x1f\x7f]{0,60}: parish convert makes the file UTF-8\n")
+    return replace(got, err=says.sub(hint_of(29), got.err.decode()).encode())
+
+
+def refused_with(number: int, *hints: str) -> Outcome:
+    """The same with other hints."""
+    return Outcome(b"", f"parish: {named(number)}\n{''.join(map(hinted, hints))}".encode(), 1)
 
 
 def refused_row(number: int, row: int) -> Outcome:
-    """The same of a row of a batch."""
-    return Outcome(b"", f"parish: {named(number)} at row {row}\n".encode(), 1)
+    """The same as `refused` of a row of a batch."""
+    return Outcome(b"", f"parish: {named(number)} at row {row}\n{hint_of(number)}".encode(), 1)
+
+
+# The hints of 80 where the file of an archive is not opened, or not made, by a word of each.
+CAUSES = {
+    word: next(text for text in hints_of_80() if word in text)
+    for word in (
+        "another program", "folder, or", "does not exist", "to read", "to write", "journal", "second name",
+        "no database", "damaged", "no place", "read or written", "more memory",
+    )
+}
+
+
+def unopened(word: str) -> Outcome:
+    """What a run comes to whose archive is not opened, with 80."""
+    return refused_with(80, CAUSES[word])
+
+
+# What standard error gets of a run for which memory was refused: 1, or 80 where the database wanted it, with its cause
+# where it was opening the file.
+WANTS = (refused(1).err, refused(80).err, unopened("more memory").err)
+
+# The same of a run of which a call of the system failed.
+FAILED = (refused(80).err, *(unopened(it).err for it in CAUSES))
 
 
 def written(out: bytes) -> Outcome:

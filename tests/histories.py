@@ -14,7 +14,7 @@ from collections.abc import Iterator
 
 from archives import lines
 from ends import each_growth_refused, left_by_its_reader
-from harness import Case, Tools, demand, expect, pipe_without_reader, refused, run, written
+from harness import Case, Tools, demand, expect, pipe_without_reader, refused, run, unopened, written
 from imports import Imported
 from past_values import drawn
 from table.making import between
@@ -220,7 +220,7 @@ def devices_and_memory(tools: Tools) -> None:
         conn = sqlite3.connect(at.file, isolation_level=None)
         try:
             conn.execute("BEGIN EXCLUSIVE")
-            expect(at.history(1), refused(80))
+            expect(at.history(1), unopened("another program"))
         finally:
             conn.close()
         expect(call(), written(text))

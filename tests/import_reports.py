@@ -11,7 +11,10 @@ import re
 
 from devices import each_place
 from failing import compiled, failing, killed
-from harness import Case, Outcome, Tools, demand, difference, expect, pipe_without_reader, refused, tally, written
+from harness import (
+    WANTS, Case, Outcome, Tools, demand, difference, expect, pipe_without_reader, refused, refused_with, tally,
+    written,
+)
 from imports import BORN, ENTRY, LEE, LEE_TOLD, TWICE, Imported, opened_again
 from lineages import drawn
 from memory import apart
@@ -54,8 +57,8 @@ line 51: dangling
 """
 LEE_REPORT = b"line 2: @I1@ is person 1\nline 6: @F1@ is family 2\nline 5: dangling\n"
 
-THERE = Outcome(b"", refused(80).err + b"  the file of the report is there already: name another\n", 1)
-NOT_MADE = Outcome(b"", refused(80).err + b"  the file of the report cannot be made\n", 1)
+THERE = refused_with(80, "the file of the report is there already: name another")
+NOT_MADE = refused_with(80, "the file of the report cannot be made")
 DONE_BEFORE = b"  the import was done before: its report was made then\n"
 
 
@@ -329,7 +332,7 @@ def refused_memory(tools):
                     expect(got, written(TOLD))
                     demand(number > 100, f"it has only {number} growths")
                     return
-                errors = (refused(1).err, refused(80).err, NOT_MADE.err)
+                errors = (*WANTS, NOT_MADE.err)
                 demand(got.status == 1 and got.err in errors, f"growth {number}: {got}")
                 found, report = opened_again(at), at.report()
                 demand(found in (before, wanted), f"growth {number}: a part of the file is there")

@@ -11,7 +11,8 @@ import time
 from archives import BAPTISM, generated
 from exports import SOCIETY, Exported
 from harness import (
-    ROOT, Case, Outcome, Tools, demand, difference, expect, pipe_without_reader, refused, run, written,
+    ROOT, WANTS, Case, Outcome, Tools, demand, difference, expect, pipe_without_reader, refused, refused_row, run,
+    unopened, written,
 )
 from lineages import drawn
 from memory import apart
@@ -122,16 +123,18 @@ def refused_files(tools):
         (b"0 HEAD\n", 22, 2),
         (LEE[:-9], 22, 7),
         (between("2 CHAR UTF-8"), 20, 2),
-        (between("1 CHAR ANSEL"), 29, 2),
         (between("1 NOTE a\0b"), 15, 2),
         (between("0 @I1@ INDI", "0 @I1@ INDI"), 26, 3),
         (TWICE, 60, 10),
     )
+    says = b"parish: 29 Charset at line 2\n  CHAR is ANSEL: parish convert makes the file UTF-8\n"
     with Imported(tools) as at:
         kept = at.made().tables()
         for given, number, line in files:
             expect(at.import_(given), refused(number, line))
             demand(at.tables() == kept, f"{number} changed something")
+        expect(at.import_(between("1 CHAR ANSEL")), Outcome(b"", says, 1))
+        demand(at.tables() == kept, "29 changed something")
         expect(at.import_(LEE), written(LEE_TOLD))
 
 
@@ -159,7 +162,7 @@ def other_files(tools):
     with Imported(tools) as at:
         with open(at.file, "wb") as file:
             file.write(b"x" * 5_000)
-        expect(at.import_(LEE), refused(80))
+        expect(at.import_(LEE), unopened("no database"))
     with Imported(tools) as at:
         expect(at.made().other_database("UPDATE meta SET version = 3").import_(LEE), refused(83))
 
@@ -302,7 +305,7 @@ def refused_memory(tools):
                     expect(got, told)
                     demand(number > 100, f"it has only {number} growths")
                     return
-                demand(got.status == 1 and got.err in (refused(1).err, refused(80).err), f"growth {number}: {got}")
+                demand(got.status == 1 and got.err in WANTS, f"growth {number}: {got}")
                 demand(opened_again(at) in (before, wanted), f"growth {number}: a part of the file is there")
                 expect(at.import_(LEE), told)
 
@@ -344,7 +347,7 @@ def an_entry_of_a_file(tools):
                     "1 _MENT John", "2 _ROLE child", "0 @I1@ INDI")
     with Imported(tools) as at:
         expect(at.made().import_(given), written(b"imported 3 records, first 1\n"))
-        expect(at.entries(BAPTISM.encode() + b"\n"), Outcome(b"", b"parish: 60 DuplicateEntry at row 1\n", 1))
+        expect(at.entries(BAPTISM.encode() + b"\n"), refused_row(60, 1))
         expect(at.apply(b"l,link,2,1,3,same farm\n"), written(b"l,ok,0,0\n"))
 
 

@@ -7,7 +7,7 @@ import os
 import sqlite3
 
 from ends import each_growth_refused, left_by_its_reader, refused_as_no_archive
-from harness import Case, Tools, demand, expect, pipe_without_reader, refused, run, written
+from harness import Case, Tools, demand, expect, pipe_without_reader, refused, run, unopened, written
 from imports import Imported
 from table.making import between
 
@@ -441,7 +441,7 @@ def another_program_has_it(tools):
         try:
             conn.execute("BEGIN EXCLUSIVE")
             for call in (at.persons, at.anns, at.first):
-                expect(call(), refused(80))
+                expect(call(), unopened("another program"))
         finally:
             conn.close()
         expect(at.persons(), listed((1, 2, 3)))

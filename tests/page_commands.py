@@ -10,7 +10,7 @@ import tempfile
 from archives import lines
 from ends import refused_as_no_archive
 from failing import compiled, failing
-from harness import Case, Outcome, Tools, demand, expect, named, refused, run, written
+from harness import Case, Outcome, Tools, demand, expect, hint_of, named, refused, run, written
 from lists import NO_NUMBERS, NO_REFERENCES, Listed
 
 # Rows of a new archive, which are its records 1 to 5.
@@ -120,8 +120,9 @@ def found(rows, lines):
 
 
 def refused_at(number, row, line=""):
-    """A refusal of a row, after the line of the cell."""
-    return Outcome(b"", f"{line}parish: {named(number)} at row {row}\n".encode(), 1)
+    """A refusal of a row, after the line of the cell, with its hint; what is wrong with a cell by itself has none."""
+    hint = "" if line and number not in (50, 58) else hint_of(number)
+    return Outcome(b"", f"{line}parish: {named(number)} at row {row}\n{hint}".encode(), 1)
 
 
 def each_cell(tools):

@@ -15,7 +15,7 @@ FORESTS = 120
 BROKEN = 160
 CUT = 12  # files that are cut at each of their places
 SHORT = 220  # bytes of one of these
-REFUSAL = re.compile(rb"parish: ([0-9]+) ([A-Za-z0-9]+) at line [1-9][0-9]*\n")
+REFUSAL = re.compile(rb"parish: ([0-9]+) ([A-Za-z0-9]+) at line [1-9][0-9]*\n(?:  [^\n]+\n){0,2}")
 LINE_END = re.compile(rb"[\r\n]")
 LINE_ENDS = (b"\n", b"\r", b"\r\n", b"\n\r", b"\n\n \t\n")
 

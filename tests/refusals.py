@@ -1,4 +1,4 @@
-"""The numbers and names of refusals, the same wherever they are: in five crates and docs/REFUSALS.md.
+"""The numbers and names of refusals, and their hints, the same wherever they are: in six crates and docs/REFUSALS.md.
 
 The crate of files and the crate of the archive each have a definition that gives a kind its number, and one
 that gives it its name; the calls `number` and `name` are proved to answer these. The crates of lines and of
@@ -10,17 +10,19 @@ from __future__ import annotations
 import os
 import re
 
-from harness import ROOT, Case, Tools, demand
+from harness import ROOT, Case, Tools, demand, hints
 
 LINES = "crates/gedcom_line/specs/Refusals.antt"
 FILES = "crates/gedcom_rules/specs/Refusals.antt"
 ARCHIVE = "crates/record_text/specs/Refusals.antt"
 DATES = "crates/gedcom_date/specs/Refusals.antt"
 TABLES = "crates/table_pages/specs/Faults.antt"
+HINTS = "crates/tasks/specs/Hints.antt"
 DOCUMENT = "docs/REFUSALS.md"
 
 NUMBER = re.compile(r"^number_of kind\.(\w+) = ([0-9]+)$", re.MULTILINE)
 NAME = re.compile(r'^name_of kind\.(\w+) = codes "(\w+)"$', re.MULTILINE)
+HINT = re.compile(r'^advice kind\.(\w+) =\s+codes "  (.+)" \+\+ 10', re.MULTILINE)
 # (a refusal begins a row of a table, or an item of a list)
 ROW = re.compile(r"^(?:\| |- \*\*)([0-9]+)(?: \||\*\*) (\w+)(?: \||:)", re.MULTILINE)
 
@@ -114,8 +116,17 @@ def code_agrees_with_the_document():
         demand(listed.get(kind) == number, f"{LINES} has {number} {kind}, {DOCUMENT} {listed.get(kind)}")
 
 
+def hints_agree_with_the_document():
+    """The hints of the document are those of the code, where a kind has one."""
+    text, numbers = text_of(HINTS), {name: number for number, name in kinds_of(ARCHIVE).values()}
+    demand(len(HINT.findall(text)) > 30, f"{HINTS} has not all hints")
+    told = {numbers[kind]: hint for kind, hint in HINT.findall(text)}
+    demand(told == hints(), f"{set(told.items()) ^ set(hints().items())}")
+
+
 def cases(_tools: Tools):
     yield Case("refusals: two crates have the same numbers and names", crates_agree)
     yield Case("refusals: a fault of a line has the number of files", lines_agree_with_files)
     yield Case("refusals: a fault of a date has the number of the archive", dates_agree_with_the_archive)
     yield Case("refusals: the code agrees with the document", code_agrees_with_the_document)
+    yield Case("refusals: the hints of the document are those of the code", hints_agree_with_the_document)

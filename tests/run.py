@@ -20,6 +20,7 @@ from concurrent.futures import ThreadPoolExecutor
 
 sys.dont_write_bytecode = True
 
+import accidents  # noqa: E402
 import archives  # noqa: E402
 import audits  # noqa: E402
 import conversions  # noqa: E402
@@ -109,6 +110,7 @@ PARTS = (
     untouched,
     visits,
     conversions,
+    accidents,
     converted,
     scripts,
     releases,

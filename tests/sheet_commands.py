@@ -10,7 +10,9 @@ import sqlite3
 from archives import lines
 from ends import each_growth_refused, left_by_its_reader, refused_as_no_archive
 from exports import HEADER, TRAILER
-from harness import Case, Outcome, Tools, demand, difference, expect, pipe_without_reader, refused, run, written
+from harness import (
+    Case, Outcome, Tools, demand, difference, expect, pipe_without_reader, refused, run, unopened, written,
+)
 from imports import Imported
 from shown.drawn import TODAY as DAY
 from shown.drawn import archive, date_of
@@ -227,8 +229,8 @@ def another_program_has_it(tools):
         conn = sqlite3.connect(at.file, isolation_level=None)
         try:
             conn.execute("BEGIN EXCLUSIVE")
-            expect(at.sheet("person", 1), refused(80))
-            expect(at.public(), refused(80))
+            expect(at.sheet("person", 1), unopened("another program"))
+            expect(at.public(), unopened("another program"))
         finally:
             conn.close()
         expect(at.sheet("family", 3), outcome(SHEETS[2][2]))

@@ -17,7 +17,7 @@ from dataclasses import dataclass, field
 
 from earlier import ANEW
 from failing import compiled, failing, noted_calls, noting
-from harness import Case, Failed, Tools, demand, expect, refused, tally
+from harness import FAILED, Case, Failed, Tools, demand, expect, tally
 from undisturbed import BATCH, ENDS, IMPORT, MADE, MERGE, PERSON, REMOVAL, ROWS, UNDO, Command, Undisturbed, tables_of
 
 LEAST = 5  # calls that a command makes on a file, at least
@@ -40,7 +40,7 @@ def is_stopped(whole: Undisturbed, library: str, end: str, passed: int) -> bool:
         if got == whole.whole:
             answered = len(whole.answers)
         else:
-            demand((got.status, got.err) == (1, refused(80).err), f"status {got.status}, {got.err!r}")
+            demand(got.status == 1 and got.err in FAILED, f"status {got.status}, {got.err!r}")
         whole.demand_found(at, answered, min(answered + 1, len(whole.answers)))
         whole.demand_ended(at)
         return True

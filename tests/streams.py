@@ -114,7 +114,7 @@ def errors_that_cannot_be_told(tools):
 
 
 def refusals_in_one_write(tools):
-    """Each write to such a socket is a packet of its own."""
+    """Each write to such a socket is a packet of its own: the line of a refusal is one, and its hint another."""
     for given, wanted in ((HEAD, refused(22, 2)), (b"", refused(21, 1))):
         ours, theirs = socket.socketpair(socket.AF_UNIX, socket.SOCK_SEQPACKET)
         with ours:
@@ -122,7 +122,7 @@ def refusals_in_one_write(tools):
                 got = run(tools.parish, ("norm",), given, stderr=theirs)
             packets = list(iter(lambda: ours.recv(4_096), b""))
         expect(Outcome(got.out, b"".join(packets), got.status), wanted)
-        demand(len(packets) == 1, f"it came in {len(packets)} writes")
+        demand(packets == wanted.err.splitlines(keepends=True), f"it came as {packets}")
 
 
 def no_input(tools):
@@ -241,7 +241,7 @@ STREAMS = (
     ("endless blank lines end at the limit of a file", endless_blank_lines),
     ("a full device for a text that was asked for is 95", full_device_for_a_text),
     ("a closed input and output is 94", closed_input_and_output),
-    ("a refusal is told in one write", refusals_in_one_write),
+    ("each line of a refusal is told in one write", refusals_in_one_write),
     ("norm", asks_for("norm", "parish", "norm")),
     ("norm of a program without a name", asks_for("norm", "", "norm")),
     ("check", asks_for("check", "parish", "check")),

@@ -7,7 +7,7 @@ from __future__ import annotations
 import functools
 
 from audits import Audited
-from harness import Case, Outcome, Tools, demand, refused, run
+from harness import Case, Outcome, Tools, demand, refused, run, without_hints
 from rooms import visited
 from spoilt import PAIRS, Tables
 from table.making import between
@@ -88,8 +88,8 @@ class Spoilt(Audited):
 
 def is_refused(got: Outcome, numbers=REFUSED) -> bool:
     """A refusal, perhaps after a line on what is wrong, or with the row; and nothing on standard output."""
-    last = got.err.decode().splitlines()[-1:]
-    named = [refused(number).err.decode().strip() for number in numbers]
+    last = without_hints(got.err).decode().splitlines()[-1:]
+    named = [without_hints(refused(number).err).decode().strip() for number in numbers]
     return got.status == 1 and got.out == b"" and any(line.startswith(name) for line in last for name in named)
 
 

@@ -13,7 +13,7 @@ import subprocess
 import tempfile
 
 from archives import META, Folder, lines
-from harness import Case, Outcome, Tools, demand, expect, refused, run, shown
+from harness import FAILED, Case, Outcome, Tools, demand, expect, refused, run, shown
 from table.making import between
 
 TODAY = ("--today", "2024-01-01")
@@ -197,7 +197,9 @@ def is_left_alone(at, number, word, words, given):
     no database at all (80) a log may be made; one that was there may be another."""
     before = None if os.path.isdir(at.file) else files_of(at)
     got, read = ended(at.parish, (word, at.file, *words), given)
-    expect(got, refused(number))
+    wanted = refused(number)
+    demand(number == 80 or got == wanted, f"{word}: {got}")
+    demand(number != 80 or (got.status == 1 and got.err in FAILED and not got.out), f"{word}: {got}")
     demand(read == 0, f"{word}: {read} bytes of standard input are gone")
     if before is None:
         demand(os.listdir(at.path) == [os.path.basename(at.file)], f"{word}: something is new: {os.listdir(at.path)}")

@@ -15,7 +15,7 @@ from collections.abc import Iterable, Iterator
 from archives import Folder, answered
 from earlier import ANEW
 from exports import ARCHIVES
-from harness import REFUSALS, Case, Failed, Outcome, Tools, demand, expect, refused, run, tally, written
+from harness import REFUSALS, WANTS, Case, Failed, Outcome, Tools, demand, expect, refused, run, tally, written
 from imports import LEE, LEE_TOLD
 from memory import MOST, apart
 from refusing import built, refusing
@@ -55,7 +55,7 @@ COMMANDS = (
 
 def is_told(got: Outcome, whole: Outcome) -> bool:
     """1 or 80 behind a beginning of what is written, or a row that is answered with 1."""
-    if got.status == 1 and got.err in (refused(1).err, refused(80).err):
+    if got.status == 1 and got.err in WANTS:
         return whole.out.startswith(got.out)
     return got.status == 0 and got.out.endswith(b",refused,1,OutOfMemory\n") and got.out.count(b"\n") == 1
 
@@ -131,7 +131,7 @@ def wanting_room(whole: Undisturbed, library: str, page: bytes, number: int) -> 
             return False
         reply, ended = got
         if ended != written(b""):
-            demand(ended.status == 1 and ended.err in (refused(1).err, refused(80).err), f"{ended}")
+            demand(ended.status == 1 and ended.err in WANTS, f"{ended}")
         demand(reply in (page, b""), f"{reply!r} is a part of a page")
         demand(tables_of(at) == whole.tables[0], "the tables changed")
         return True

@@ -1,5 +1,5 @@
 -- What a close leaves of a file and the log beside it. Rules of our own.
-use Rattle.std.specs.Prelude.{◌≡◌, IsTrue}
+use Rattle.std.specs.Prelude.{◌≡◌, Bool, IsTrue, false, nat_lt}
 use Rattle.sqlite.specs.Closing.{IsCopied}
 use Rattle.sqlite.specs.Files.{HoldsDatabase, IsClosed, file_state}
 use Rattle.sqlite.specs.Held.{Held}
@@ -11,7 +11,7 @@ use Rattle.sqlite_store.specs.declared.store.FileStore.{FileStore}
 use Rattle.sqlite_store.specs.FileStore.{files as files_of, state, view}
 use Rattle.sqlite_trees.specs.View.{IsClean}
 use Rattle.sqlite_wal.specs.Files.{outcomes}
-use Rattle.sqlite_wal.specs.Reads.{AreClean}
+use Rattle.sqlite_wal.specs.Reads.{AreClean, tally_of_files}
 use Rattle.sqlite_wal.specs.Recovery.{Image}
 use Rattle.archive_files.specs.declared.left.Closed.{Closed}
 use Rattle.archive_files.specs.declared.left.Closed.TheVariants as closed
@@ -58,3 +58,9 @@ module _ {D : Type 0} {g : disk.Ghosts D} where
     IsStopping (Unopened rest) after = after ≡ closed.Unopened rest
     IsStopping (Open conn) (closed.Uncopied last) = IsStoppedOver conn last
     IsStopping (Open conn) _ = ⊥
+
+    -- a write to the file or to its log has found no room on the disk, as their counts say
+    abbrev pub found_no_room : Closed S D g → Bool
+    found_no_room (closed.Copied files) = nat_lt 0 (tally_of_files g (files.log, files.db)).refused
+    found_no_room (closed.Uncopied last) = nat_lt 0 (tally_of_files g (files_of last)).refused
+    found_no_room _ = false

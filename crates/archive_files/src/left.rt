@@ -1,6 +1,7 @@
 //! What is left of the two files of a database, which are closed by it or given up as they stand.
 
-ghost use Rattle.archive_files.specs.Closing.{IsClosedOver, IsClosing, IsStopping};
+ghost use Rattle.std.specs.Prelude.{◌≡◌};
+ghost use Rattle.archive_files.specs.Closing.{IsClosedOver, IsClosing, IsStopping, found_no_room};
 
 use sqlite::{Connection, FileFrom, FileStore, Files, Leftover};
 use sqlite_disk::Disk;
@@ -52,6 +53,20 @@ impl<S: Drop, D: Disk + Drop> Drop for Closed<S, D> {
             Closed::Unopened(_left) => {}
             Closed::Copied(_files) => {}
             Closed::Uncopied(_store) => {}
+        }
+    }
+}
+
+impl<S, D: Disk> Closed<S, D> {
+    /// Whether a write to the file or to its log has found no room on the disk, since they were opened.
+    pub fn found_no_room(&self) -> bool
+        ensures { result ≡ found_no_room self.now }
+    {
+        match self {
+            Closed::Untouched(_) => false,
+            Closed::Unopened(_) => false,
+            Closed::Copied(files) => files.tally().refused > 0,
+            Closed::Uncopied(store) => store.tally().refused > 0,
         }
     }
 }

@@ -3,6 +3,7 @@
 //! - `database_opening`, `laws`, `left`: the two files of a database, which are a file and the log beside it: opened
 //!   once, closed, and what is left of them.
 //! - `beside`, `making`, `opening`: an archive in a file and the log beside it: made, or opened.
+//! - `causes`: why a file is neither.
 //!
 //! Callers may rely on:
 //! - a function that is given a value of an `Openable` type opens its files at most once, and hands back what is left
@@ -13,13 +14,15 @@
 #![tactic(auto)]
 
 mod beside;
+mod causes;
 mod database_opening;
 pub mod laws;
 mod left;
 mod making;
 mod opening;
 
+pub use causes::Cause;
 pub use database_opening::Openable;
 pub use left::{Closed, ClosedFile, Left, LeftFile};
-pub use making::init;
-pub use opening::{ArchiveFile, open};
+pub use making::{Made, init};
+pub use opening::{ArchiveFile, Refused, open};

@@ -22,7 +22,8 @@ ghost use Rattle.archive_core.specs.Machine.{import_of};
 
 use crate::faults::refusal_of;
 use devices::Device;
-use gedcom_tree::{Forest, read_forest};
+use file_faults::read_forest_from;
+use gedcom_tree::Forest;
 use imports::report_of;
 use receipts::{Answer, Report, Token};
 use record_text::Refusal;
@@ -32,13 +33,18 @@ use std::alloc::Global;
 use std::io::Read;
 use store::Archive;
 
-/// Reads a file of lines whole, as its forest. Refused as `read_forest` does, with the line.
-pub fn read_file<R: Read + Device>(alloc: Global, input: &mut R) -> Result<Forest, Refusal>
+/// Reads a file of lines whole, as its forest. Refused as `gedcom_tree::read_forest` does, with the line; a fault that
+/// comes soon leaves the first bytes of the file in `start`, as `read_forest_from` says.
+pub fn read_file<R: Read + Device>(
+    alloc: Global,
+    input: &mut R,
+    start: &mut Vec<u8>,
+) -> Result<Forest, Refusal>
     ensures read { IfOk result (λ forest. IsFileOf (R.remaining input.old) forest) }
     ensures refused { IfErr result (λ e. IsNoFile (R.remaining input.old) e
         (Rose (R.failed input.old) (R.failed input.new))) }
 {
-    match read_forest(alloc, input) {
+    match read_forest_from(alloc, input, start) {
         Ok(forest) => Ok(forest),
         Err(fault) => Err(refusal_of(fault)),
     }

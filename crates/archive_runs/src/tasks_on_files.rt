@@ -1,17 +1,17 @@
 //! A task, performed on the archive in a file.
 
-ghost use Rattle.std.specs.Prelude.{Err};
 ghost use Rattle.sqlite_wal.specs.Files.{image_at};
 ghost use Rattle.archive_runs.specs.Reporting.{EndsBeside, EndsReportedOnFile};
 ghost use Rattle.archive_runs.specs.Tasks.{EndsOnFile};
 
+use crate::hints::refuse_opening;
 use archive_files::{Left, LeftFile, Openable, open};
 use archive_output::Shelf;
 use devices::Device;
 use receipts::Token;
 use std::io::{Read, Write};
 use std::rt::HostRuntime;
-use tasks::{FaultStream, Task, import_reported, perform_task, placeless, status_of};
+use tasks::{FaultStream, Task, import_reported, perform_task};
 
 /// Opens the archive in a file, performs a task on it, and gives the exit status; of `Task::Library` also what may be
 /// shown; and what is left of the file.
@@ -45,7 +45,7 @@ pub fn perform_on_file<S: Openable, R: Read + Device, W: Write + Device, F: Faul
             );
             (status, shown, Left::Open(archive.into_connection()))
         }
-        Err((kind, left)) => (status_of(Err(placeless(kind)), faults), None, left),
+        Err((kind, cause, left)) => (refuse_opening(kind, cause, faults), None, left),
     }
 }
 
@@ -93,6 +93,6 @@ pub fn import_on_file<
             );
             (status, kept, Left::Open(archive.into_connection()))
         }
-        Err((kind, left)) => (status_of(Err(placeless(kind)), faults), false, left),
+        Err((kind, cause, left)) => (refuse_opening(kind, cause, faults), false, left),
     }
 }

@@ -56,3 +56,9 @@ hint_text bytes =
 abbrev pub hint_of : ConversionError → List ℕ → List ℕ
 hint_of (UnknownSet n) bytes = hint_text bytes
 hint_of _ bytes = []
+
+-- ---- a file that is read as it is, in UTF-8, and names another set
+-- what its first bytes say of its set, and what to do
+abbrev pub char_hint : List ℕ → List ℕ
+char_hint bytes = codes "  CHAR is" ++ (shown max_shown (words_of (lines (file_units Utf8 bytes)))
+    ++ (codes ": parish convert makes the file UTF-8" ++ 10 ∷ []))

@@ -6,6 +6,7 @@ ghost use Rattle.character_sets.specs.CodePages.{is_alike};
 ghost use Rattle.character_sets.specs.Lines.{lines};
 ghost use Rattle.conversion_reports.specs.Hints.{
   both_readings,
+  char_hint as char_hint_of,
   hint_text,
   near_unlike as near_unlike_of,
   no_char,
@@ -16,7 +17,7 @@ ghost use Rattle.conversion_reports.specs.Hints.{
 };
 
 use crate::kinds::line_text;
-use crate::pushes::{push, push_shown};
+use crate::pushes::{push, push_cut, push_shown};
 use character_sets::{CharacterSet, first_line, is_read_alike};
 use file_conversion::{NamedSet, char_lines, file_units, named_by};
 use std::alloc::{AllocError, Global};
@@ -30,6 +31,23 @@ pub(crate) fn hint(alloc: Global, bytes: &[u8]) -> Result<Vec<u8>, AllocError>
     let named = named_by(alloc, &units)?;
     let mut out = Vec::new(alloc);
     push_named(alloc, &mut out, named, &units)?;
+    Ok(out)
+}
+
+/// What the lines CHAR of the first HEAD say, and what to do: the hint of a file that is refused since it names another
+/// set than UTF-8. `start` is what the file begins with; a line CHAR that stands later is not found.
+///
+/// A line that begins with two spaces, with at most 60 characters of the file. An error comes only where memory is
+/// refused.
+pub fn char_hint(alloc: Global, start: &[u8]) -> Result<Vec<u8>, AllocError>
+    ensures { IfOk result (λ text. text.items ≡ char_hint_of start.now) }
+{
+    let units = file_units(alloc, CharacterSet::Utf8, start)?;
+    let chars = char_lines(alloc, &units)?;
+    let mut out = Vec::new(alloc);
+    push(&mut out, "  CHAR is")?;
+    push_cut(&mut out, &chars.words)?;
+    push(&mut out, ": parish convert makes the file UTF-8\n")?;
     Ok(out)
 }
 

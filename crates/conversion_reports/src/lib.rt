@@ -1,5 +1,5 @@
 //! Files in other character sets converted aloud: what standard error says of a file that was converted, and the hint
-//! of a file whose set is not known.
+//! of a file whose set is not known, or that should be converted first.
 //!
 //! It uses `file_conversion` for the set and the text of a file, `character_sets` and `character_sets` for its lines
 //! and their characters, and `devices`. It knows no command and no number of a refusal.
@@ -18,3 +18,4 @@ mod tallies;
 mod written;
 
 pub use aloud::{Unconverted, convert_aloud};
+pub use hints::char_hint;

@@ -46,7 +46,8 @@ pub(crate) fn push_shown(out: &mut Vec<u8>, text: &[u8]) -> Result<(), AllocErro
     push_line_end(out)
 }
 
-fn push_cut(out: &mut Vec<u8>, text: &[u8]) -> Result<(), AllocError>
+/// Adds the first characters of a text in UTF-8, with spaces for control characters.
+pub(crate) fn push_cut(out: &mut Vec<u8>, text: &[u8]) -> Result<(), AllocError>
     ensures { OnOk result (out.new.items ≡ out.old.items ++ shown_of max_shown text.now) }
 {
     let mut before = 0u8;

@@ -12,8 +12,10 @@ mod listing;
 mod marks;
 mod reading;
 mod shown;
+mod starts;
 mod streams;
 mod walking;
 
+pub use starts::read_forest_from;
 pub use streams::{Checked, write_faults};
 pub use walking::list_faults;

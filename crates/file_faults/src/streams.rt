@@ -17,7 +17,7 @@ use gedcom_tree::TreeReader;
 use std::alloc::{AllocError, Global};
 use std::io::{Read, Write};
 
-const OUT_OF_MEMORY: TreeFault = TreeFault {
+pub(crate) const OUT_OF_MEMORY: TreeFault = TreeFault {
     kind: TreeKind::OutOfMemory,
     at: None,
 };

@@ -101,7 +101,7 @@ module _ {R W F D S : Type 0} {g : disk.Ghosts D} (reader : read.Ghosts R) (read
       imported true word progress (inl bad) =
           untried (task.Import word progress) bad.3.0 bad.2 (no_token word bad.0)
       imported true word progress (inr (token, inl unmade)) =
-          untried (task.Import word progress) unmade.3 unmade.2 unmade.0.1.0
+          untried (task.Import word progress) unmade.3 unmade.2 unmade.0.0
       imported true word progress (inr (token, inr did)) = besides word progress did.0
 
       -- ---- a new archive

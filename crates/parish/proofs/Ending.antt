@@ -99,7 +99,7 @@ module _ {D S R W F : Type 0} {g : disk.Ghosts D} (reader : read.Ghosts R) (read
   import_at_most_1 false word progress did = under_at_most_1 word (task.Import word progress) did
   import_at_most_1 true word progress (inl none) = finished_at_most_1 _ none.0
   import_at_most_1 true word progress (inr (token, inl unmade)) =
-      at_most_1 faulter.contents fails.failed (Err (placeless_text Storage)) status x.faults unmade.0.0 unmade.0.1
+      omega (arith, unmade.0.0)
   import_at_most_1 true word progress (inr (token, inr did)) = beside_at_most_1 word progress did.0
 
   pub does_at_most_1 : (a : Asked) → Does reader reads writer writes faulter fails image status x y left room a

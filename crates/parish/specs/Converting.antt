@@ -13,8 +13,8 @@ use Rattle.record_text.specs.declared.refusal.RefusalKind.TheVariants as kind
 use Rattle.record_text.specs.declared.refusal.RefusalText.{RefusalText}
 use Rattle.record_text.specs.declared.refusal.Unit.TheVariants as unit
 use Rattle.std.specs.Prelude.{IfSome}
-use Rattle.tasks.specs.Faults.{IsReported}
-use Rattle.tasks.specs.Status.{placeless_text, refusal_line}
+use Rattle.tasks.specs.Hints.{advice}
+use Rattle.tasks.specs.Status.{IsRefused, placeless_text}
 
 abbrev pub set_of : SetName → CharacterSet
 set_of named.Utf8 = set.Utf8
@@ -41,13 +41,16 @@ refusal_of (error.UnknownSet line) = record {
   unit = unit.Line;
 }
 
+-- the hint of a set that is not known is that of the bytes
+abbrev pub hint_by : ConversionError → List ℕ → List ℕ
+hint_by (error.UnknownSet line) hint = hint
+hint_by e hint = advice (refusal_of e).refusal.kind
+
 -- `said` is what the faults have got, `failed` how often they failed
 module _ {F : Type 0} (said : F → Option (List ℕ)) (failed : F → ℕ) where
-  -- the line of the refusal is printed and then the hint, each whole but where the faults failed, by their count
-  pub record Refuses (e : ConversionError) (hint : List ℕ) (old new : F) : Type 0 where
-    pub between : F
-    pub line : IsReported said failed old between (refusal_line (refusal_of e))
-    pub hints : IsReported said failed between new hint
+  -- the line of the refusal is printed and then its hint, each whole but where the faults failed, by their count
+  abbrev pub Refuses : ConversionError → List ℕ → F → F → Type 0
+  Refuses e hint old new = IsRefused said failed (refusal_of e) (hint_by e hint) old new
 
   -- it was not done: what was written and reported, and why; then the refusal, with the hint of the bytes
   pub record Unconverts (asked : Option CharacterSet) (known old new : Option (List ℕ)) (faults_old faults_new : F)

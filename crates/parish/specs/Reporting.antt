@@ -1,5 +1,5 @@
 -- An import that writes a report first. Rules of our own.
-use Rattle.std.specs.Prelude.{◌≡◌, ◌⊎◌, ◌++◌, ◌∷◌, [], ℕ, Bool, List, Option, None, Err, codes}
+use Rattle.std.specs.Prelude.{◌≡◌, ◌⊎◌, ◌++◌, ◌∷◌, [], ℕ, Bool, List, Option, None, codes}
 use Rattle.std.specs.declared.io.Read as read
 use Rattle.std.specs.declared.io.Write as write
 use Rattle.sqlite_disk.specs.declared.Disk as disk
@@ -10,9 +10,8 @@ use Rattle.archive_runs.specs.Reporting.{EndsBeside}
 use Rattle.devices.specs.declared.device.Device as device
 use Rattle.parish.specs.declared.visits.Visits.{Visits}
 use Rattle.record_text.specs.declared.refusal.RefusalKind.TheVariants.{Storage}
-use Rattle.tasks.specs.Faults.{IsReported}
 use Rattle.tasks.specs.Moments.{Streams}
-use Rattle.tasks.specs.Status.{Finishes, placeless_text}
+use Rattle.tasks.specs.Status.{IsRefused, placeless_text}
 
 -- what is said of a file that is there, and of one that cannot be made
 abbrev pub there_hint : List ℕ
@@ -24,9 +23,9 @@ unmade_hint = codes "  the file of the report cannot be made" ++ 10 ∷ []
 module _ {F : Type 0} (said : F → Option (List ℕ)) (failed : F → ℕ) where
   -- the file of the report was not made: 80, and why
   abbrev pub IsUnmade : ℕ → F → F → Type 0
-  IsUnmade status before after = (between : F)
-      × Finishes said failed (Err (placeless_text Storage)) status before between
-      × (IsReported said failed between after there_hint ⊎ IsReported said failed between after unmade_hint)
+  IsUnmade status before after = (status ≡ 1)
+      × (IsRefused said failed (placeless_text Storage) there_hint before after
+      ⊎ IsRefused said failed (placeless_text Storage) unmade_hint before after)
 
 module _ {D S R W F : Type 0} {g : disk.Ghosts D} (reader : read.Ghosts R) (reads : device.Ghosts R)
     (writer : write.Ghosts W) (writes : device.Ghosts W) (faulter : write.Ghosts F) (fails : device.Ghosts F)

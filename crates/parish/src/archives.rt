@@ -16,7 +16,7 @@ use crate::reporting::take_in_reported;
 use crate::tables::entering_task;
 use crate::visits::{Visits, room_of};
 use archive_files::{Left, LeftFile, Openable, init};
-use archive_runs::perform_on_file;
+use archive_runs::{perform_on_file, status_of_opening};
 use command_line::{RoomPages, TableWords};
 use devices::Device;
 use receipts::Token;
@@ -25,7 +25,7 @@ use row_references::NumberWord;
 use std::alloc::Global;
 use std::io::{Read, Write};
 use std::rt::HostRuntime;
-use tasks::{FaultStream, Task, placeless, plain, status_of};
+use tasks::{FaultStream, Task, placeless, status_of};
 
 /// What a command ends with: the exit status, what is left of the archive's file, and the room that is to be served.
 pub(crate) type Ended<S> = (u8, LeftFile<S>, Option<Visits>);
@@ -41,8 +41,8 @@ pub(crate) fn make<S: Openable, F: FaultStream>(
     ensures { (outcome : Outcome) × Makes (image_at S.Start) result.1 society.now outcome
         × Finishes F.contents F.failed outcome result.0 faults.old faults.new }
 {
-    let (outcome, left) = init(rt, file, society, start);
-    (status_of(plain(outcome), faults), left)
+    let (outcome, cause, left) = init(rt, file, society, start);
+    (status_of_opening(outcome, cause, faults), left)
 }
 
 /// Performs a task on the archive in a file.

@@ -63,14 +63,14 @@ const WORDS_REFUSED: u8 = 2;
 /// archive's file, and the reading room where one is to be served. Who calls closes the file, and
 /// serves the room then.
 ///
-/// Results go to `output`, a refusal goes to `faults` as one line, and so does what is wrong with a row of `apply` that
-/// is refused, what `audit` finds wrong, with `--progress` how far an import is, why one with `--report` has none, what
-/// `convert` did, what an export with `--plain` leaves out, and how many dates of a table that is entered are only
-/// words. Where `faults` fails too, only the status says so. Where the words are refused nothing is read, and nothing
-/// written elsewhere: what is not taken is answered on `output` only where it asks for help or for the version. Words
-/// that are taken are never refused: what they name is done, with 0, or 1 and a reason. Of each archive that the file
-/// held nothing is lost, however much was seen of the output and of the end, as soon as the file is closed, or given up
-/// in a stop.
+/// Results go to `output`, a refusal goes to `faults` as one line, after which its hint may stand, and so does what is
+/// wrong with a row of `apply` that is refused, what `audit` finds wrong, with `--progress` how far an import is, why
+/// one with `--report` has none, what `convert` did, what an export with `--plain` leaves out, and how many dates of a
+/// table that is entered are only words. Where `faults` fails too, only the status says so. Where the words are
+/// refused nothing is read, and nothing written elsewhere: what is not taken is answered on `output` only where it
+/// asks for help or for the version. Words that are taken are never refused: what they name is done, with 0, or 1 and
+/// a reason. Of each archive that the file held nothing is lost, however much was seen of the output and of the end,
+/// as soon as the file is closed, or given up in a stop.
 pub fn command<S: Openable, R: Read + Device, W: Write + Device, F: FaultStream>(
     rt: &HostRuntime,
     words: &[String],
@@ -136,12 +136,12 @@ fn work<S: Openable, R: Read + Device, W: Write + Device, F: FaultStream>(
 {
     match asked {
         Asked::Norm => {
-            let outcome = norm(rt.alloc(), input, output);
-            (status_of(outcome, faults), Left::Untouched(start), None)
+            let status = norm(rt.alloc(), input, output, faults);
+            (status, Left::Untouched(start), None)
         }
         Asked::Check => {
-            let outcome = check(rt.alloc(), input, output);
-            (status_of(outcome, faults), Left::Untouched(start), None)
+            let status = check(rt.alloc(), input, output, faults);
+            (status, Left::Untouched(start), None)
         }
         Asked::CheckAll => {
             let outcome = check_all(rt.alloc(), input, output);

@@ -12,7 +12,7 @@ use file_conversion::ConversionError;
 use record_text::{Refusal, RefusalKind, RefusalText, Unit};
 use std::alloc::Global;
 use std::io::{Read, Write};
-use tasks::{FaultStream, placeless, status_of};
+use tasks::{FaultStream, advice, placeless};
 
 /// The file was converted.
 const DONE: u8 = 0;
@@ -42,10 +42,20 @@ fn refuse<F: FaultStream>(refused: &Unconverted, faults: &mut F) -> u8
     ensures printed { converting.Refuses F.contents F.failed refused.now.error refused.now.hint.items
         faults.old faults.new }
 {
-    let status = status_of(Err(text_of(refused.error)), faults);
-    let hint: &[u8] = &refused.hint;
-    faults.report(hint);
-    status
+    tasks::refuse(text_of(refused.error), hint_of(refused), faults)
+}
+
+/// The hint of a refusal: of a set that is not known that of the file.
+fn hint_of(refused: &Unconverted) -> &[u8]
+    ensures { result.now ≡ converting.hint_by refused.now.error refused.now.hint.items }
+{
+    match refused.error {
+        ConversionError::OutOfMemory => advice(RefusalKind::OutOfMemory).as_bytes(),
+        ConversionError::ReadFailed => advice(RefusalKind::ReadFailed).as_bytes(),
+        ConversionError::WriteFailed => advice(RefusalKind::WriteFailed).as_bytes(),
+        ConversionError::TooLarge => advice(RefusalKind::FileTooLarge).as_bytes(),
+        ConversionError::UnknownSet(_) => &refused.hint,
+    }
 }
 
 /// Why a file was not converted, as it is printed.

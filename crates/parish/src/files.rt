@@ -4,17 +4,19 @@ ghost use Rattle.std.specs.Prelude.{◌≡◌, IfErr, OnErr, OnOk};
 ghost use Rattle.std.specs.Io.KnownBytes.{Appends};
 ghost use Rattle.devices.specs.Devices.{AppendsBeginning, Rose};
 ghost use Rattle.gedcom_rules.specs.Views.{fault_view};
-ghost use Rattle.gedcom_tree.specs.Streams.{NotWritten};
+ghost use Rattle.gedcom_tree.specs.Streams.{Normalised, NotWritten};
 ghost use Rattle.parish.specs.Ends as ends;
+ghost use Rattle.tasks.specs.Status.{Finishes, Outcome};
 
 use archive_input::refusal_of;
 use devices::{Device, TransferError, write_bytes};
-use file_faults::{Checked, write_faults};
+use file_faults::{Checked, read_forest_from, write_faults};
 use gedcom_rules::{TreeFault, TreeKind};
-use gedcom_tree::{normalise, read_forest};
+use gedcom_tree::write_forest;
 use record_text::{RefusalText, Unit};
 use std::alloc::Global;
 use std::io::{Read, Write};
+use tasks::{FaultStream, status_of_file};
 
 const OUT_OF_MEMORY: TreeFault = TreeFault {
     kind: TreeKind::OutOfMemory,
@@ -26,35 +28,46 @@ const WRITE_FAILED: TreeFault = TreeFault {
     at: None,
 };
 
-/// `norm`: writes the file of the input, canonical, on the output. Refusals as of `gedcom_tree::normalise`.
-pub(crate) fn norm<R: Read + Device, W: Write + Device>(
+/// `norm`: writes the file of the input, canonical, on the output, and gives the exit status. Refusals as of
+/// `gedcom_tree::normalise`.
+pub(crate) fn norm<R: Read + Device, W: Write + Device, F: FaultStream>(
     alloc: Global,
     input: &mut R,
     output: &mut W,
-) -> Result<(), RefusalText>
-    ensures { ends.Normalises (R.remaining input.old) (W.contents output.old) (W.contents output.new)
-        (Rose (R.failed input.old) (R.failed input.new)) (Rose (W.failed output.old) (W.failed output.new)) result }
+    faults: &mut F,
+) -> u8
+    ensures { (outcome : Outcome)
+        × ends.Normalises (R.remaining input.old) (W.contents output.old) (W.contents output.new)
+        (Rose (R.failed input.old) (R.failed input.new)) (Rose (W.failed output.old) (W.failed output.new)) outcome
+        × Finishes F.contents F.failed outcome result faults.old faults.new }
 {
-    match normalise(alloc, input, output) {
+    let mut start = Vec::new(alloc);
+    let outcome = match normalise_from(alloc, input, &mut start, output) {
         Ok(()) => Ok(()),
         Err(fault) => Err(text_of(fault)),
-    }
+    };
+    status_of_file(alloc, outcome, &start, faults)
 }
 
-/// `check`: reads the file of the input, and prints on the output how many records it has. Refusals as of
-/// `gedcom_tree::read_forest`. 95: the output failed.
-pub(crate) fn check<R: Read + Device, W: Write + Device>(
+/// `check`: reads the file of the input, prints on the output how many records it has, and gives the exit status.
+/// Refusals as of `gedcom_tree::read_forest`. 95: the output failed.
+pub(crate) fn check<R: Read + Device, W: Write + Device, F: FaultStream>(
     alloc: Global,
     input: &mut R,
     output: &mut W,
-) -> Result<(), RefusalText>
-    ensures { ends.Checks (R.remaining input.old) (W.contents output.old) (W.contents output.new)
-        (Rose (R.failed input.old) (R.failed input.new)) (Rose (W.failed output.old) (W.failed output.new)) result }
+    faults: &mut F,
+) -> u8
+    ensures { (outcome : Outcome)
+        × ends.Checks (R.remaining input.old) (W.contents output.old) (W.contents output.new)
+        (Rose (R.failed input.old) (R.failed input.new)) (Rose (W.failed output.old) (W.failed output.new)) outcome
+        × Finishes F.contents F.failed outcome result faults.old faults.new }
 {
-    match count_records(alloc, input, output) {
+    let mut start = Vec::new(alloc);
+    let outcome = match count_records(alloc, input, &mut start, output) {
         Ok(()) => Ok(()),
         Err(fault) => Err(text_of(fault)),
-    }
+    };
+    status_of_file(alloc, outcome, &start, faults)
 }
 
 /// `check --all`: the same; where the file has faults, the list of its faulty lines goes to the output. Refusals as of
@@ -80,11 +93,34 @@ fn text_of(fault: TreeFault) -> RefusalText
     refusal_of(fault).text(Unit::Line)
 }
 
-/// Reads a whole file, and writes how many records it has.
+/// Reads a whole file, and writes its canonical text: `gedcom_tree::normalise`, but for the first bytes, which a fault
+/// may leave in `start`.
+#[tactic(auto, using(list_laws::proofs::Outcomes::keeps))]
+fn normalise_from<R: Read + Device, W: Write + Device>(
+    alloc: Global,
+    input: &mut R,
+    start: &mut Vec<u8>,
+    output: &mut W,
+) -> Result<(), TreeFault>
+    ensures ok { OnOk result (Normalised (R.remaining input.old) (W.contents output.old) (W.contents output.new)) }
+    ensures err { IfErr result (λ f. ends.Unfinished (R.remaining input.old)
+        (W.contents output.old) (W.contents output.new)
+        (Rose (R.failed input.old) (R.failed input.new)) (Rose (W.failed output.old) (W.failed output.new))
+        (fault_view f)) }
+{
+    let forest = match read_forest_from(alloc, input, start) {
+        Ok(forest) => forest,
+        Err(fault) => return Err(fault),
+    };
+    write_forest(alloc, &forest, output)
+}
+
+/// Reads a whole file, and writes how many records it has. A fault may leave the first bytes in `start`.
 #[tactic(auto, using(list_laws::proofs::Outcomes::keeps))]
 fn count_records<R: Read + Device, W: Write + Device>(
     alloc: Global,
     input: &mut R,
+    start: &mut Vec<u8>,
     output: &mut W,
 ) -> Result<(), TreeFault>
     ensures ok { OnOk result (ends.Told (R.remaining input.old)
@@ -95,7 +131,7 @@ fn count_records<R: Read + Device, W: Write + Device>(
         (fault_view f)) }
 {
     let before = output.failures();
-    let forest = match read_forest(alloc, input) {
+    let forest = match read_forest_from(alloc, input, start) {
         Ok(forest) => forest,
         Err(fault) => return Err(fault),
     };

@@ -14,7 +14,7 @@ use std::fs::{File, remove_file};
 use std::io;
 use std::io::{ErrorKind, Read, Write};
 use std::rt::HostRuntime;
-use tasks::{FaultStream, placeless, status_of};
+use tasks::{FaultStream, placeless, refuse};
 
 /// What is said of a file that is there.
 const THERE: &str = "  the file of the report is there already: name another\n";
@@ -100,9 +100,11 @@ fn remove_unless(rt: &HostRuntime, kept: bool, path: &str) {
 fn cannot_make<F: FaultStream>(error: &io::Error, faults: &mut F) -> u8
     ensures { IsUnmade F.contents F.failed result faults.old faults.new }
 {
-    let status = status_of(Err(placeless(RefusalKind::Storage)), faults);
-    faults.report(hint_of(error).as_bytes());
-    status
+    refuse(
+        placeless(RefusalKind::Storage),
+        hint_of(error).as_bytes(),
+        faults,
+    )
 }
 
 /// Why a file cannot be made.

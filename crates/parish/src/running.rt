@@ -11,14 +11,14 @@ ghost use Rattle.archive_runs.specs.Leaving.{IsAsTold};
 use crate::command::command;
 use crate::visits::Visits;
 use archive_files::{ClosedFile, Openable};
-use archive_runs::{close_file, stop_file};
+use archive_runs::{close_file, say_no_place, stop_file};
 use devices::Device;
 use std::io::{Read, Write};
 use std::rt::HostRuntime;
 use tasks::FaultStream;
 
 /// Does what the words ask for, as `command`, and closes the file. It gives the exit status, what is left of the file,
-/// and the room that is to be served.
+/// and the room that is to be served. If it was refused and the disk is full, that is said last.
 ///
 /// `ended`: nothing is lost of each archive that the file held, by what the run wrote and its status, so that runs
 /// follow each other by the law of `archive_runs`. `stopped`: nor where it is stopped after the close, with some of
@@ -42,7 +42,9 @@ pub fn run<S: Openable, R: Read + Device, W: Write + Device, F: FaultStream>(
         → IsRunOf (image_at S.Start) bytes seen None after (map string_bytes words.now) }
 {
     let (status, left, room) = command(rt, words, start, input, output, faults);
-    (status, close_file(left), room)
+    let closed = close_file(left);
+    say_no_place(status, &closed, faults);
+    (status, closed, room)
 }
 
 /// The same up to a stop before the file is closed: with a disk that fails from the stop on, `command` comes to its

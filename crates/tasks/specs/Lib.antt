@@ -3,6 +3,7 @@ pub mod Counts
 pub mod Ends
 pub mod Faults
 pub mod Hiding
+pub mod Hints
 pub mod Moments
 pub mod Parts
 pub mod Reporting

@@ -8,6 +8,7 @@ use Rattle.record_text.specs.declared.refusal.Unit.{Unit as Counted}
 use Rattle.record_text.specs.declared.refusal.Unit.TheVariants as unit
 use Rattle.store.specs.Histories.{is_storage}
 use Rattle.tasks.specs.Faults.{IsReported}
+use Rattle.tasks.specs.Hints.{IsHint}
 
 -- what is done, or why it is not, with the place
 abbrev pub Outcome : Type 0
@@ -42,9 +43,14 @@ place_text unit (Some n) = codes " at " ++ (unit_name unit ++ (codes " " ++ deci
 abbrev pub refusal_line : RefusalText → List ℕ
 refusal_line t = kind_text t.refusal.kind ++ (place_text t.unit t.refusal.at ++ 10 ∷ [])
 
--- 0, and nothing more is said on the faults; or 1, with the line of the refusal there, whole but where they failed, by
--- their count. `said` is what the faults have got, `failed` how often they failed
+-- the line of a refusal was written, and then a hint, each whole but where the faults failed, by their count. `said` is
+-- what the faults have got, `failed` how often they failed
+abbrev pub IsRefused : {F : Type 0} → (F → Option (List ℕ)) → (F → ℕ) → RefusalText → List ℕ → F → F → Type 0
+IsRefused {F} said failed refusal hint old new = (between : F)
+    × IsReported said failed old between (refusal_line refusal) × IsReported said failed between new hint
+
+-- 0, and nothing more is said on the faults; or 1, with the refusal there and a hint of it
 abbrev pub Finishes : {F : Type 0} → (F → Option (List ℕ)) → (F → ℕ) → Outcome → ℕ → F → F → Type 0
 Finishes said failed (Ok done) status old new = (status ≡ 0) × (new ≡ old)
 Finishes said failed (Err refusal) status old new = (status ≡ 1)
-    × IsReported said failed old new (refusal_line refusal)
+    × ((hint : List ℕ) × IsHint refusal.refusal.kind hint × IsRefused said failed refusal hint old new)

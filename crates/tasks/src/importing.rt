@@ -38,9 +38,10 @@ use store::Archive;
 /// Imports the file of the input under a token, and prints how many records were made, with the report of the file.
 /// With `progress` the faults get how far it is.
 ///
-/// Refusals as of `archive_input::read_file` and `import_forest`, with the line; nothing is printed then. 95: the
-/// output failed. 1: no memory was found for what is printed, or by the faults for a line of `progress`. At these two
-/// the file was imported, and a prefix may be printed.
+/// Refusals as of `archive_input::read_file`, which may leave the first bytes of the file in `start`, and
+/// `import_forest`, with the line; nothing is printed then. 95: the output failed. 1: no memory was found for what is
+/// printed, or by the faults for a line of `progress`. At these two the file was imported, and a prefix may be
+/// printed.
 pub(crate) fn import_file<
     S: Alter,
     C: Clock,
@@ -54,6 +55,7 @@ pub(crate) fn import_file<
     token: Token,
     progress: bool,
     input: &mut R,
+    start: &mut Vec<u8>,
     output: &mut W,
     faults: &mut F,
 ) -> Result<(), RefusalText>
@@ -74,7 +76,7 @@ pub(crate) fn import_file<
     ensures told_done { progress ≡ true → OnOk result (TellsImported S.Store (SaysCount F.contents F.failed) token
         (R.remaining input.old) archive.old archive.new faults.old faults.new) }
 {
-    match read_file(alloc, input) {
+    match read_file(alloc, input, start) {
         Ok(forest) => import_read(
             alloc, clock, archive, token, progress, forest, output, faults,
         ),

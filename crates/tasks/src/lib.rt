@@ -11,6 +11,7 @@ mod auditing;
 mod checking;
 mod entering;
 mod faults;
+mod hints;
 mod importing;
 pub mod laws;
 mod libraries;
@@ -24,7 +25,8 @@ mod tabling;
 mod task;
 
 pub use faults::FaultStream;
+pub use hints::{advice, status_of_file};
 pub use perform::perform_task;
 pub use reporting::import_reported;
-pub use status::{placeless, plain, status_of};
+pub use status::{placeless, plain, refuse, status_of};
 pub use task::{TableForm, Task};

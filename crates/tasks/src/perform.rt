@@ -25,8 +25,9 @@ use std::io::{Read, Write};
 use std::time::Clock;
 use store::Archive;
 
-/// Performs a task on an archive that is open, and gives the exit status: 0; or 1, after the line of the refusal on the
-/// faults. Of `Task::Library` also what may be shown. `clock` says when a line of progress is due.
+/// Performs a task on an archive that is open, and gives the exit status: 0; or 1, after the line of the refusal on
+/// the faults, and that of its hint. Of `Task::Library` also what may be shown. `clock` says when a line of progress
+/// is due.
 ///
 /// Results go to `output`. On `faults` stands, before that line, what is wrong with each row of `Task::Apply` that is
 /// refused, what `Task::Audit` finds wrong, what a plain export leaves out, and with `progress` how far an import is.
@@ -52,17 +53,22 @@ pub fn perform_task<S: Alter, C: Clock, R: Read + Device, W: Write + Device, F: 
         result.0 result.1 }
 {
     let reporting = reporting_of(&task);
-    let (outcome, shown) = try_task(alloc, clock, archive, task, input, output, faults);
-    (conclude(reporting, outcome, faults), shown)
+    let mut start = Vec::new(alloc);
+    let (outcome, shown) = try_task(
+        alloc, clock, archive, task, input, &mut start, output, faults,
+    );
+    (conclude(alloc, reporting, outcome, &start, faults), shown)
 }
 
-/// Tries a task: on an archive that is lost it is refused with 81, and nothing is done.
+/// Tries a task: on an archive that is lost it is refused with 81, and nothing is done. A file that is refused may
+/// leave its first bytes in `start`.
 fn try_task<S: Alter, C: Clock, R: Read + Device, W: Write + Device, F: FaultStream>(
     alloc: Global,
     clock: &C,
     archive: &mut Archive<S>,
     task: Task,
     input: &mut R,
+    start: &mut Vec<u8>,
     output: &mut W,
     faults: &mut F,
 ) -> (Result<(), RefusalText>, Option<Shelf>)
@@ -78,7 +84,7 @@ fn try_task<S: Alter, C: Clock, R: Read + Device, W: Write + Device, F: FaultStr
     if archive.is_lost() {
         return (Err(placeless(RefusalKind::Reopen)), None);
     }
-    do_task(alloc, clock, archive, task, input, output, faults)
+    do_task(alloc, clock, archive, task, input, start, output, faults)
 }
 
 /// Does a task, and gives its outcome, with what may be shown where that was asked for.
@@ -88,6 +94,7 @@ fn do_task<S: Alter, C: Clock, R: Read + Device, W: Write + Device, F: FaultStre
     archive: &mut Archive<S>,
     task: Task,
     input: &mut R,
+    start: &mut Vec<u8>,
     output: &mut W,
     faults: &mut F,
 ) -> (Result<(), RefusalText>, Option<Shelf>)
@@ -121,7 +128,7 @@ fn do_task<S: Alter, C: Clock, R: Read + Device, W: Write + Device, F: FaultStre
         ),
         Task::Import { token, progress } => (
             import_file(
-                alloc, clock, archive, token, progress, input, output, faults,
+                alloc, clock, archive, token, progress, input, start, output, faults,
             ),
             None,
         ),

@@ -5,6 +5,7 @@ ghost use Rattle.tasks.specs.Reporting.{EndsReported, SaysDoneBefore, is_kept, m
 ghost use Rattle.tasks.specs.Status.{Finishes};
 
 use crate::faults::FaultStream;
+use crate::hints::status_of_file;
 use crate::importing::import_read;
 use crate::status::{placeless, status_of};
 use archive_input::read_file;
@@ -55,8 +56,12 @@ pub fn import_reported<
     if archive.is_lost() {
         return (refused(placeless(RefusalKind::Reopen), faults), false);
     }
-    match read_file(alloc, input) {
-        Err(why) => (refused(why.text(Unit::Line), faults), false),
+    let mut start = Vec::new(alloc);
+    match read_file(alloc, input, &mut start) {
+        Err(why) => {
+            let outcome = Err(why.text(Unit::Line));
+            (status_of_file(alloc, outcome, &start, faults), false)
+        }
         Ok(forest) => match write_report(alloc, archive, &token, &forest, report) {
             Ok(is_whole) => {
                 let outcome = import_read(

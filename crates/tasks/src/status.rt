@@ -1,9 +1,18 @@
-//! The exit status of what was done, and the line of a refusal.
+//! The exit status of what was done, and the line of a refusal with its hint.
 
 ghost use Rattle.std.specs.Prelude.{◌≡◌, ◌≤◌, ◌+◌, ◌++◌, [], length};
-ghost use Rattle.tasks.specs.Status.{Finishes, as_text, kind_text, place_text, placeless_text, refusal_line};
+ghost use Rattle.tasks.specs.Status.{
+  Finishes,
+  IsRefused,
+  as_text,
+  kind_text,
+  place_text,
+  placeless_text,
+  refusal_line,
+};
 
 use crate::faults::FaultStream;
+use crate::hints::advice;
 use arrayvec::ArrayString;
 use itoa::Buffer;
 use record_text::{Refusal, RefusalKind, RefusalText, Unit};
@@ -35,19 +44,27 @@ pub fn plain(outcome: Result<(), RefusalKind>) -> Result<(), RefusalText>
 }
 
 /// The exit status of what was done: 0; or 1, after the line of the refusal on the faults:
-/// `parish: <number> <Name>`, with ` at line <n>` or ` at row <n>` where it has a place. It takes no memory, and the
-/// line is given to the stream whole. Where that fails, by its count, only the status says that it was refused.
+/// `parish: <number> <Name>`, with ` at line <n>` or ` at row <n>` where it has a place, and a line of what to do, if
+/// its kind has one. It takes no memory, and each line is given to the stream whole. Where that fails, by its count,
+/// only the status says that it was refused.
 pub fn status_of<F: FaultStream>(outcome: Result<(), RefusalText>, faults: &mut F) -> u8
     ensures { Finishes F.contents F.failed outcome result faults.old faults.new }
 {
     match outcome {
         Ok(()) => DONE,
-        Err(refusal) => {
-            let line = line_of(refusal);
-            faults.report(line.as_str().as_bytes());
-            REFUSED
-        }
+        Err(refusal) => refuse(refusal, advice(refusal.refusal.kind).as_bytes(), faults),
     }
+}
+
+/// The same of what was refused, with another hint: lines that begin with two spaces, or nothing.
+pub fn refuse<F: FaultStream>(refusal: RefusalText, hint: &[u8], faults: &mut F) -> u8
+    ensures status { result ≡ 1 }
+    ensures told { IsRefused F.contents F.failed refusal hint.now faults.old faults.new }
+{
+    let line = line_of(refusal);
+    faults.report(line.as_str().as_bytes());
+    faults.report(hint);
+    REFUSED
 }
 
 /// The line of a refusal. There is room for it.

@@ -5,9 +5,11 @@ ghost use Rattle.tasks.specs.Status.{Finishes};
 ghost use Rattle.tasks.specs.Stopping.{as_stopped, has_bad_rows, is_said, names_row, reporting_of};
 
 use crate::faults::FaultStream;
-use crate::status::{REFUSED, placeless, status_of};
+use crate::hints::status_of_file;
+use crate::status::{REFUSED, placeless};
 use crate::task::Task;
 use record_text::{Refusal, RefusalKind, RefusalText, Unit};
+use std::alloc::Global;
 
 /// The outcome of rows that end at the first that is refused.
 pub(crate) fn stopped(stopping: Result<Option<Refusal>, RefusalKind>) -> Result<(), RefusalText>
@@ -43,10 +45,12 @@ pub(crate) fn reporting_of(task: &Task) -> Reporting
     }
 }
 
-/// The exit status of what was done, as `status_of`; of what a task has said by itself nothing more is said: 1.
+/// The exit status of what was done, as `status_of_file`; of what a task has said by itself nothing more is said: 1.
 pub(crate) fn conclude<F: FaultStream>(
+    alloc: Global,
     reporting: Reporting,
     outcome: Result<(), RefusalText>,
+    start: &[u8],
     faults: &mut F,
 ) -> u8
     ensures { MatchBool (is_said reporting outcome) ((result ≡ 1) × (faults.new ≡ faults.old))
@@ -55,7 +59,7 @@ pub(crate) fn conclude<F: FaultStream>(
     if is_said(reporting, outcome) {
         REFUSED
     } else {
-        status_of(outcome, faults)
+        status_of_file(alloc, outcome, start, faults)
     }
 }
 

@@ -1,7 +1,5 @@
-use Rattle.std.proofs.Common.{ap, inl, inr, refl, subst, Err, false}
-use Rattle.record_text.specs.declared.refusal.RefusalText.{RefusalText}
+use Rattle.std.proofs.Common.{ap, inl, inr, refl, false}
 use Rattle.sqlite_wal.specs.Files.{image_at}
-use Rattle.tasks.specs.Status.{Finishes}
 use Rattle.archive_files.specs.declared.left.Left.TheVariants.{Open}
 use Rattle.archive_runs.proofs.Reported.{beside}
 use Rattle.archive_runs.proofs.tasks_on_files.import_on_file.Goals as goal
@@ -31,9 +29,7 @@ returns-in-Err-clause-reported g c = inl (
     unread = refl;
     unwritten = refl;
     unshown = refl;
-    finishes = subst
-        (λ (t : RefusalText). Finishes g.F.Write.contents g.F.Device.failed (Err t) c.status_of.result
-        c.args.faults.now c.status_of.new.faults) c.placeless.ensures c.status_of.ensures;
+    finishes = c.refuse_opening.ensures;
   },
 )
 

@@ -1,6 +1,4 @@
-use Rattle.std.proofs.Common.{ap, inl, inr, refl, subst, Err}
-use Rattle.record_text.specs.declared.refusal.RefusalText.{RefusalText}
-use Rattle.tasks.specs.Status.{Finishes}
+use Rattle.std.proofs.Common.{ap, inl, inr, refl}
 use Rattle.archive_runs.proofs.tasks_on_files.perform_on_file.Goals as goal
 use Rattle.archive_files.specs.declared.left.Left.TheVariants.{Open}
 
@@ -20,7 +18,5 @@ returns-in-Err g c = inl (record {
   unread = refl;
   unwritten = refl;
   unshown = refl;
-  finishes = subst
-      (λ (t : RefusalText). Finishes g.F.Write.contents g.F.Device.failed (Err t) c.status_of.result c.args.faults.now
-      c.status_of.new.faults) c.placeless.ensures c.status_of.ensures;
+  finishes = c.refuse_opening.ensures;
 })

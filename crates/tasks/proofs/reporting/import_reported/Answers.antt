@@ -39,10 +39,10 @@ returns-in-Err g c = inr (inr (inl (record {
         archive = c.args.archive.now;
         input = c.read_file.new.input;
         output = c.args.output.now;
-        faults = c.refused-in-Err.new.faults;
+        faults = c.status_of_file.new.faults;
       })
-      c.refused-in-Err.result c.text.result refl refl (sym c.is_lost.ensures ∙ c.if-is_lost.false)
-      (rw c.text.ensures c.in-Err.ensures.refused) c.refused-in-Err.ensures;
+      c.status_of_file.result c.text.result refl refl (sym c.is_lost.ensures ∙ c.if-is_lost.false)
+      (rw c.text.ensures c.in-Err.ensures.refused) c.status_of_file.ensures;
 })))
 
 pub returns-in-Ok-write_report : goal.returns-in-Ok-write_report
