@@ -21,7 +21,7 @@ ROW = re.compile(
     r'const (\w+): CommandRow = CommandRow \{\n    name: "(\w+)",\n    about: (\w+),.*?words: &\[([^\]]*)\],', re.DOTALL
 )
 # The words that are the name of a file.
-FILES = ("FILE", "report")
+FILES = ("FILE", "report", "expect")
 # The words that have one of a few values, by command: the file and the name of the constant that lists them.
 LISTED = {
     ("sheet", "KIND"): ("showing.rt", "KINDS"),

@@ -55,6 +55,7 @@ REFUSALS = {
     93: "BadToken",
     94: "ReadFailed",
     95: "WriteFailed",
+    96: "NotAsExpected",
     97: "UnknownColumn",
     98: "MissingColumn",
 }

@@ -18,11 +18,15 @@ ARCHIVE = "crates/record_text/specs/Refusals.antt"
 DATES = "crates/gedcom_date/specs/Refusals.antt"
 TABLES = "crates/table_pages/specs/Faults.antt"
 HINTS = "crates/tasks/specs/Hints.antt"
+EXPECTED = "crates/tasks/specs/Expecting.antt"
 DOCUMENT = "docs/REFUSALS.md"
 
 NUMBER = re.compile(r"^number_of kind\.(\w+) = ([0-9]+)$", re.MULTILINE)
 NAME = re.compile(r'^name_of kind\.(\w+) = codes "(\w+)"$', re.MULTILINE)
 HINT = re.compile(r'^advice kind\.(\w+) =\s+codes "  (.+)" \+\+ 10', re.MULTILINE)
+# (the line of a row that would be answered otherwise, and its hint)
+UNEXPECTED = re.compile(r'codes "parish: ([0-9]+) (\w+) at row "')
+UNEXPECTED_HINT = re.compile(r'^hint = codes "  (.+)" \+\+ 10', re.MULTILINE)
 # (a refusal begins a row of a table, or an item of a list)
 ROW = re.compile(r"^(?:\| |- \*\*)([0-9]+)(?: \||\*\*) (\w+)(?: \||:)", re.MULTILINE)
 
@@ -104,6 +108,8 @@ def code_agrees_with_the_document():
     told = {name: number for path in (FILES, ARCHIVE) for number, name in kinds_of(path).values()}
     for number, name in kinds_of_tables():
         demand(told.setdefault(name, number) == number, f"{TABLES}: {name} is {number}")
+    ((number, name),) = UNEXPECTED.findall(text_of(EXPECTED))
+    told[name] = int(number)
     for name, number in listed.items():
         demand(told.get(name) == number, f"{DOCUMENT} has {number} {name}, the code {told.get(name)}")
     missing = sorted(
@@ -121,6 +127,8 @@ def hints_agree_with_the_document():
     text, numbers = text_of(HINTS), {name: number for number, name in kinds_of(ARCHIVE).values()}
     demand(len(HINT.findall(text)) > 30, f"{HINTS} has not all hints")
     told = {numbers[kind]: hint for kind, hint in HINT.findall(text)}
+    ((number, _),) = UNEXPECTED.findall(text_of(EXPECTED))
+    (told[int(number)],) = UNEXPECTED_HINT.findall(text_of(EXPECTED))
     demand(told == hints(), f"{set(told.items()) ^ set(hints().items())}")
 
 

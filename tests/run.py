@@ -22,6 +22,7 @@ sys.dont_write_bytecode = True
 
 import accidents  # noqa: E402
 import archives  # noqa: E402
+import as_expected  # noqa: E402
 import audits  # noqa: E402
 import conversions  # noqa: E402
 import converted  # noqa: E402
@@ -80,6 +81,7 @@ PARTS = (
     devices,
     archives,
     until_refused,
+    as_expected,
     references,
     past_values,
     histories,

@@ -24,6 +24,7 @@ OFFERED = (
     (("find", "town.db", "--kind", "e"), {"events", "entries"}),
     (("convert", "--from", "utf-16"), {"utf-16le", "utf-16be"}),
     (("apply", "town.db", "--s"), {"--stop"}),
+    (("apply", "town.db", "--expect", "to"), {"town.db", "town.csv"}),
     (("completions", ""), {"bash", "zsh"}),
     (("list", "town.db", "persons", "--c"), {"--csv"}),
     (("export", "town.db", "--p"), {"--public", "--plain"}),

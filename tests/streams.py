@@ -262,6 +262,8 @@ STREAMS = (
     ("apply --help tells --stop", told(b"\n      --stop  ", "apply", "--help")),
     ("apply with --stop of something", refuses_words(b"'--stop", "apply", "a.db", "--stop=1")),
     ("apply with --stop twice", refuses_words(b"--stop", "apply", "a.db", "--stop", "--stop")),
+    ("apply --help tells --expect", told(b"\n      --expect <ANSWERS>  ", "apply", "--help")),
+    ("apply with --expect of nothing", refuses_words(b"--expect", "apply", "a.db", "--expect")),
     ("entries with --stop", refuses_words(b"'--stop'", "entries", "a.db", "--source", "1", "--token", "t", "--stop")),
     ("apply --help names the document", told(b"\ndocs/REFUSALS.md ", "apply", "--help")),
     ("init without a file", refuses_words(b"<FILE>", "init", "--society", "x")),

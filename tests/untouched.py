@@ -22,6 +22,7 @@ RIGHT = (
     ("init", "FILE", "--society", "Ashby"),
     ("apply", "FILE"),
     ("apply", "FILE", "--stop"),
+    ("apply", "FILE", "--expect", "ANSWERS"),
     ("entries", "FILE", "--source", "1", "--token", "t"),
     ("import", "FILE", "--token", "t"),
     ("import", "FILE", "--progress", "--token", "t"),
@@ -40,7 +41,7 @@ RIGHT = (
     ("check",),
 )
 FLAGS = ("--plain", "--progress", "--public", "--stop", "--words")
-OPTIONAL = ("--plain", "--progress", "--report", "--stop", "--words", "--generations")
+OPTIONAL = ("--plain", "--progress", "--report", "--stop", "--expect", "--words", "--generations")
 # Further wrong lines, by hand.
 WRONG = (
     (),

@@ -1,13 +1,13 @@
-mod Asked
+pub mod Asked
 mod Firsts
 pub mod InTurn
-mod OnTheWay
+pub mod OnTheWay
 mod One
 mod Outcomes
 pub mod Refusals
 pub mod Refused
 mod Served
 pub mod Stepped
-mod Stopped
+pub mod Stopped
 mod Imported
 pub mod Told

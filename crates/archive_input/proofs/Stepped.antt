@@ -55,7 +55,7 @@ abbrev pub failing : Outcome
 failing = Err (refused_at None Storage)
 
 module _ (old new : State) (lost : Bool) (stays : StaysReadable old lost new) where
-  performs_looked : lost ≡ false → Performs old [] new
+  pub performs_looked : lost ≡ false → Performs old [] new
   performs_looked sure = record {
     done = λ none society c has.
         (c, refl, (has.0, stays.same sure has.0 c has.1 (seen_of has.2), has.2));
@@ -71,7 +71,7 @@ module _ (old new : State) (lost : Bool) (stays : StaysReadable old lost new) wh
     clean = stays.clean;
   }
 
-  performs_failing : (r : Request) → Performs old ((r, failing) ∷ []) new
+  pub performs_failing : (r : Request) → Performs old ((r, failing) ∷ []) new
   performs_failing r = record {
     done = λ none. let wrong : ⊥ = cc in absurd wrong;
     rows = λ none. let wrong : ⊥ = cc in absurd wrong;

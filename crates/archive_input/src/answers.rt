@@ -11,8 +11,8 @@ use receipts::Answer;
 use record_text::{Refusal, RefusalKind};
 use std::alloc::{AllocError, Global};
 
-/// The answer to a request with its outcome. Refused only if out of memory.
-pub(crate) fn outcome_text(
+/// The bytes of the answer to a request with its outcome. Refused only if out of memory.
+pub fn outcome_text(
     alloc: Global,
     request: &Request,
     outcome: Result<Answer, Refusal>,
@@ -26,8 +26,8 @@ pub(crate) fn outcome_text(
     }
 }
 
-/// The answer to a row that is no request. Refused only if out of memory.
-pub(crate) fn bad_text(alloc: Global, bad: &BadRequest) -> Result<Vec<u8>, AllocError>
+/// The bytes of the answer to a row that is no request. Refused only if out of memory.
+pub fn bad_text(alloc: Global, bad: &BadRequest) -> Result<Vec<u8>, AllocError>
     ensures { IfOk result (λ bytes. bytes.items ≡ answer_text (Err bad.now)) }
 {
     match &bad.token {

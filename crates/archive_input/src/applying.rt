@@ -204,8 +204,9 @@ fn apply_rows<S: Alter, R: Read, W: Write + Device, F: Write + Device>(
     Err(RefusalKind::OutOfMemory)
 }
 
-/// Where a call stops after a row of this number. `None`: it goes on.
-fn stop_at(stops: bool, refused: Option<RefusalKind>, number: u64) -> Option<Refusal>
+/// Where a call stops after a row of this number, which was refused so, where `stops` is that it ends at the first that
+/// is. `None`: it goes on.
+pub fn stop_at(stops: bool, refused: Option<RefusalKind>, number: u64) -> Option<Refusal>
     ensures goes_on { result ≡ None → stops ≡ true → refused ≡ None }
     ensures stops { IfSome result (λ e. (stops ≡ true) × (refused ≡ Some e.kind) × (e.at ≡ Some (row_place number))) }
 {
@@ -222,8 +223,8 @@ fn stop_at(stops: bool, refused: Option<RefusalKind>, number: u64) -> Option<Ref
     }
 }
 
-/// The number of a row as a refusal has it.
-fn row_place(number: u64) -> u32
+/// The number of a row as a refusal has it: the greatest of 32 bits where it is above that.
+pub fn row_place(number: u64) -> u32
     ensures { result ≡ row_place number }
 {
     if number <= 4_294_967_295 {

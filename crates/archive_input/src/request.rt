@@ -32,7 +32,7 @@ pub fn read_request(alloc: Global, row: &ByteRecord) -> Result<Request, BadReque
 
 /// The request of a row with any numbers in place of its references. Refused as by `read_request`.
 #[tactic(auto, using(crate::proofs::Asked::form_read))]
-pub(crate) fn read_in_form(alloc: Global, row: &ByteRecord) -> Result<Request, BadRequest>
+pub fn read_in_form(alloc: Global, row: &ByteRecord) -> Result<Request, BadRequest>
     ensures { OrWants result (Asks (in_form (fields_of row.now))) }
 {
     let plain = with_any_numbers(alloc, row)?;

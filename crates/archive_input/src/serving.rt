@@ -204,9 +204,9 @@ fn serve_looked<S: Alter, W: Write + Device>(
     }
 }
 
-/// The row with its numbers in place of its references, by looks at the archive. `None`: one of them has no number. 80:
-/// the looks lost the archive. 1, 40: they failed otherwise.
-fn look_up<S: Alter>(
+/// The row with its numbers in place of its references, by looks at an archive that takes requests. `None`: one of them
+/// has no number. 80: the looks lost the archive. 1, 40: they failed otherwise.
+pub fn look_up<S: Alter>(
     alloc: Global,
     archive: &mut Archive<S>,
     row: &ByteRecord,
@@ -353,9 +353,12 @@ fn serve_request<S: Alter, W: Write + Device>(
     answered
 }
 
-/// Writes the answer to a request with its outcome: why it is refused, where it is. 80: the outcome is 80, and nothing
-/// is written.
-fn answer_outcome<W: Write + Device>(
+/// Writes the answer to a request with its outcome, and flushes it: why it is refused, where it is. `before` is the
+/// writer's count of failures at the start of the call that asks.
+///
+/// 80: the outcome is 80, and nothing is written. 95: the writer failed. 1: memory was refused. At both a beginning of
+/// the answer was written.
+pub fn answer_outcome<W: Write + Device>(
     alloc: Global,
     request: &Request,
     outcome: Result<Answer, Refusal>,
@@ -424,8 +427,9 @@ fn answer_bad<W: Write + Device>(
     answer_refused(alloc, bad, output, before)
 }
 
-/// Writes the answer to a row that is refused so, and hands its refusal on.
-fn answer_refused<W: Write + Device>(
+/// Writes the answer to a row that is refused so, flushes it, and hands its refusal on. Errors as of `answer_outcome`,
+/// but for 80.
+pub fn answer_refused<W: Write + Device>(
     alloc: Global,
     bad: BadRequest,
     output: &mut W,

@@ -12,7 +12,7 @@ use std::io::Write;
 
 /// Reports why the row of this number was refused. Where memory is refused, or the writer fails, less is said: nothing
 /// else depends on it.
-pub(crate) fn tell_fault<F: Write + Device>(
+pub fn tell_fault<F: Write + Device>(
     alloc: Global,
     number: u64,
     kind: RefusalKind,

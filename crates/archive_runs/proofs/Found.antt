@@ -20,6 +20,7 @@ use Rattle.std.proofs.Common.{
   refl,
   sym,
   ap,
+  arith,
   subst,
 }
 use Rattle.std.specs.Prelude.{Option, Result}
@@ -37,6 +38,10 @@ use Rattle.archive_files.specs.Opening.{IsTakenUp}
 use Rattle.archive_runs.specs.Tasks.{PerformsOn}
 use Rattle.archive_core.specs.Machine.{Done, Runs, import_of}
 use Rattle.archive_core.specs.declared.request.Request.{Request}
+use Rattle.expected_answers.specs.Expected.{left as left_of}
+use Rattle.expected_answers.specs.declared.expected.Expected.{Expected}
+use Rattle.expected_rows.specs.Expecting.{AreAnswered, AreExpected}
+use Rattle.expected_rows.specs.declared.expecting.Ending.TheVariants as ending
 use Rattle.archive_output.specs.Exporting.{export_text}
 use Rattle.archive_output.specs.Reading.{OnOpen, OnlyReads}
 use Rattle.archive_tables.specs.Texts.{list_of, shown_text}
@@ -85,15 +90,17 @@ use Rattle.record_text.specs.declared.refusal.RefusalKind.{RefusalKind}
 use Rattle.record_text.specs.declared.refusal.RefusalKind.TheVariants.{OutOfMemory}
 use Rattle.record_text.specs.declared.refusal.RefusalText.{RefusalText}
 use Rattle.record_text.specs.declared.refusal.Unit.TheVariants as unit
+use Rattle.std.proofs.lemmas.List.{append-nil}
 use Rattle.list_laws.proofs.Outcomes.{keeps}
 use Rattle.archive_output.specs.declared.sheet.Sheet.{Sheet}
 use Rattle.store.specs.Archives.{IsArchive}
+use Rattle.store.specs.Calls.{Performs}
 use Rattle.store.specs.Earlier.{HoldsArchive}
 use Rattle.store.specs.Histories.{Outcome as Answered, in_doubt}
 use Rattle.store.specs.Lives.{Counts, IsRefusedOver}
 use Rattle.store.specs.Shut.{is_shut}
 use Rattle.store.specs.declared.archive.Archive.{Archive}
-use Rattle.store.proofs.Histories.{counted}
+use Rattle.store.proofs.Histories.{counted, performs_then}
 use Rattle.store.proofs.Viewed.{seen_of}
 use Rattle.archive_input.specs.Answers.{Served}
 use Rattle.archive_input.specs.Applying.{
@@ -109,9 +116,11 @@ use Rattle.archive_input.specs.Applying.{
   calls_of,
 }
 use Rattle.archive_input.specs.Stopping.{AreAccepted, IsUpToRefusal}
+use Rattle.archive_input.proofs.InTurn.{none_more}
 use Rattle.archive_input.proofs.Refusals.{accepted_up_to, refused_up_to}
 use Rattle.tasks.specs.Ends.{
   Applies,
+  AppliesAsExpected,
   AppliesUntilRefused,
   Audits,
   ChecksTable,
@@ -130,6 +139,7 @@ use Rattle.tasks.specs.Ends.{
   Publishes,
   PublishesPlain,
 }
+use Rattle.tasks.specs.Expecting.{Expecting, as_expected, unexpected}
 use Rattle.tasks.specs.Moments.{Moment, Streams, at}
 use Rattle.tasks.specs.Parts.{Shelves}
 use Rattle.tasks.specs.Status.{Finishes, Outcome, Plain, as_text, placeless_text}
@@ -142,7 +152,7 @@ use Rattle.tasks.specs.declared.task.TableForm.{TableForm}
 use Rattle.tasks.specs.declared.task.Task.{Task}
 use Rattle.tasks.specs.declared.task.Task.TheVariants as task
 use Rattle.archive_runs.specs.Reading.{ReadsBack}
-use Rattle.archive_runs.specs.Runs.{Acts, KeepsNone, KeepsOne, KeepsRows, KeepsTable, Run, Tells}
+use Rattle.archive_runs.specs.Runs.{Acts, IsExpectedUpTo, KeepsNone, KeepsOne, KeepsRows, KeepsTable, Run, Tells}
 use Rattle.archive_runs.specs.Seeing.{IsSeen, IsSeenAs}
 use Rattle.archive_runs.proofs.Counted.{IsKept, Ran, accepted, refused}
 use Rattle.archive_runs.proofs.Paging.{ok_is_no_err, was_answered, was_refused}
@@ -208,6 +218,7 @@ module _ {R W F : Type 0} (reader : read.Ghosts R) (reads : device.Ghosts R) (wr
   pub acts_none : (t : Task) (c : Content) → seen ≡ [] → ¬ (HasDone ended) → Acts c (Some t) (run t) []
   acts_none task.Apply c none never = inl (refl, none, never)
   acts_none task.ApplyUntilRefused c none never = inl (refl, none, never)
+  acts_none (task.ApplyAsExpected expected stops) c none never = inl (refl, none, never)
   acts_none (task.Entries token source) c none never = inl (refl, none, never)
   acts_none (task.EnterTable token source form) c none never = inl (refl, none, never)
   acts_none (task.CheckTable source form) c none never = refl
@@ -603,6 +614,92 @@ module _ {R W F : Type 0} (reader : read.Ghosts R) (reads : device.Ghosts R) (wr
           (λ kept k same. until_refused kept k part.0.0.served same (up.0, up.1, up.2, up.3, part.1)
           (λ done. absurd (never done)))
 
+      -- rows that were served as long as each was answered as is expected
+      module _ (law : ArePerformed g) (expected : Expected) (stops : Bool) where
+        abbrev Comparing : Task
+        Comparing = task.ApplyAsExpected expected stops
+
+        as_expected_to : (kept : List Done) (k : KeepsRows c (run Comparing) kept) (served : List Served)
+            → k.served ≡ served → IsExpectedUpTo (left_of expected) served → (stops ≡ true → IsUpToRefusal served)
+            → (HasDone ended → AreAnswered stops (left_of expected) served)
+            → Acts c (Some Comparing) (run Comparing) kept
+        as_expected_to kept k served same up_to stopped whole = inr (record {
+          rows = k;
+          as_expected = subst (IsExpectedUpTo (left_of expected)) (sym same) up_to;
+          up_to = λ stop. subst IsUpToRefusal (sym same) (stopped stop);
+          whole = λ done. subst (AreExpected (left_of expected)) (sym same) (whole done).0;
+          none = λ done stop. subst AreAccepted (sym same) ((whole done).1 stop);
+        })
+
+        all_up_to : (served : List Served) → AreExpected (left_of expected) served
+            → IsExpectedUpTo (left_of expected) served
+        all_up_to served are = (served, [], none_more served, omega arith, are)
+
+        expected_found : (r : Expecting)
+            → AppliesAsExpected over_files reader reads writer writes faulter fails Before After expected stops r
+            → Concludes faulter.contents fails.failed Comparing (as_expected r) status between y.faults
+            → FoundIn Comparing society c left
+        expected_found (Ok ending.All) did finishes =
+            let all = did.applied in
+            rows_served law Comparing (row_bytes (reader.remaining x.input)) (ap row_bytes s.reads) all.0.0
+            (λ kept k same. as_expected_to kept k all.0.0.served same (all_up_to all.0.0.served all.1.0)
+            (λ stop. accepted_up_to all.0.0.served (all.1.1 stop)) (λ done. all.1))
+        expected_found (Ok (ending.Refused e)) did finishes =
+            let part = did.applied in
+            let never = undone
+            (refused_with_1 faulter.contents fails.failed Comparing
+            (record { refusal = e; unit = unit.Row }) status between y.faults finishes)
+            in
+            rows_stopped law Comparing (row_bytes (reader.remaining x.input)) (ap row_bytes s.reads) part.0.0 never
+            (λ kept k same. as_expected_to kept k part.0.0.served same (all_up_to part.0.0.served part.2)
+            (λ stop. refused_up_to part.0.0.served e part.3) (λ done. absurd (never done)))
+        expected_found (Ok (ending.Unexpected n)) did finishes =
+            let before = did.applied in
+            let m = before.0 in
+            let all = before.1.0 in
+            let looked = before.6.looked in
+            let part : AppliedOf AreFirstRows over_files (row_bytes (reader.remaining x.input)) Got Has taken new =
+            record {
+              rows = all.rows;
+              served = all.served;
+              all = all.all;
+              each = all.each;
+              numbers = λ still was. all.numbers (looked.performed still (all.kept was)).clean was;
+              certain = all.certain;
+              kept = λ was. looked.free (all.kept was);
+              performed = λ still was.
+                  let p = looked.performed still (all.kept was) in
+                  subst (λ (calls : List Done). Performs (file_state taken.conn) calls (file_state new.conn))
+                  (append-nil (calls_of all.served))
+                  (performs_then (file_state taken.conn) (file_state m.archive.conn) (file_state new.conn)
+                  (calls_of all.served) [] (all.performed p.clean was) all.certain p);
+              refused = λ shut.
+                  let same = all.refused shut in (
+                    same.0,
+                    looked.shut (subst (λ (a : Archive (FileStore D g) over_files). is_shut a ≡ true) (sym same.1)
+                        shut) ∙ same.1,
+                  );
+              written = subst (λ (out : Option (List ℕ)). Appends Got out (answers all.served)) (sym before.7)
+                  all.written;
+            }
+            in
+            let never = undone
+            (refused_with_1 faulter.contents fails.failed Comparing (unexpected n) status between y.faults finishes)
+            in
+            rows_stopped law Comparing (row_bytes (reader.remaining x.input)) (ap row_bytes s.reads) part never
+            (λ kept k same. as_expected_to kept k before.1.0.served same (all_up_to before.1.0.served before.2.0)
+            (λ stop. accepted_up_to before.1.0.served (before.2.1 stop)) (λ done. absurd (never done)))
+        expected_found (Err kind) did finishes =
+            let part = did.ended in
+            let up = part.1 in
+            let never = undone
+            (refused_with_1 faulter.contents fails.failed Comparing (placeless_text kind) status between y.faults
+            finishes)
+            in
+            rows_ended law Comparing (row_bytes (reader.remaining x.input)) (ap row_bytes s.reads) kind part.0 never
+            (λ kept k same. as_expected_to kept k part.0.served same (up.0, up.1, up.2, up.3, up.10.0)
+            (λ stop. (up.0, up.1, up.2, up.3, up.10.1 stop)) (λ done. absurd (never done)))
+
       -- of a batch of a source whose number a word gives
       of_batch : (token : List ℕ) (word : NumberWord) (o : Answered)
           → Enters over_files token word (row_bytes (reader.remaining x.input)) taken o new
@@ -934,6 +1031,10 @@ module _ {R W F : Type 0} (reader : read.Ghosts R) (reads : device.Ghosts R) (wr
           until_found law did.0.0 did.0.2
           (subst (λ (same : Outcome). Concludes faulter.contents fails.failed task.ApplyUntilRefused same status
           between y.faults) did.0.1 finishes)
+      found_by law back (task.ApplyAsExpected expected stops) o shown did finishes =
+          expected_found law expected stops did.0.0 did.0.2
+          (subst (λ (same : Outcome). Concludes faulter.contents fails.failed (task.ApplyAsExpected expected stops) same
+          status between y.faults) did.0.1 finishes)
       found_by law back (task.Entries token source) o shown did finishes =
           enter_found law token source o did.0 finishes
       found_by law back (task.EnterTable token source form) o shown did finishes =

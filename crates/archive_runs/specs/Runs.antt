@@ -2,6 +2,7 @@
 use Rattle.std.specs.Prelude.{
   ◌≡◌,
   ◌⊎◌,
+  ◌≤◌,
   ◌++◌,
   ◌∷◌,
   [],
@@ -22,6 +23,8 @@ use Rattle.sqlite_wal.specs.Recovery.{Image}
 use Rattle.archive_core.specs.Machine.{Done, Runs, import_of}
 use Rattle.archive_core.specs.declared.request.Request.{Request}
 use Rattle.archive_state.specs.Content.{Content}
+use Rattle.expected_answers.specs.Expected.{left as left_of}
+use Rattle.expected_rows.specs.Expecting.{AreExpected, Left as Awaited}
 use Rattle.request_csv.specs.Batches.{ReadsBatch}
 use Rattle.request_csv.specs.Input.{AreFirstRows, AreRows, Row, row_bytes}
 use Rattle.commands.specs.declared.entry_row.EntryRow.{EntryRow}
@@ -92,6 +95,19 @@ pub record KeepsUntilRefused (c : Content) (run : Run) (kept : List Done) : Type
   pub stops : IsUpToRefusal rows.served
   pub none : IsDone run → AreAccepted rows.served
 
+-- the rows before the last were answered as is expected, and so was the last where it was answered
+abbrev pub IsExpectedUpTo : Awaited → List Served → Type 0
+IsExpectedUpTo expected served = (first : List Served) × (last : List Served) × (served ≡ first ++ last)
+    × (length last ≤ 1) × AreExpected expected first
+
+-- rows were served as long as each was answered as is expected; where it is done each was
+pub record KeepsExpected (c : Content) (expected : Awaited) (stops : Bool) (run : Run) (kept : List Done) : Type 0 where
+  pub rows : KeepsRows c run kept
+  pub as_expected : IsExpectedUpTo expected rows.served
+  pub up_to : stops ≡ true → IsUpToRefusal rows.served
+  pub whole : IsDone run → AreExpected expected rows.served
+  pub none : IsDone run → stops ≡ true → AreAccepted rows.served
+
 -- the one request is kept, and nothing is written but this of its answer
 abbrev pub KeepsOne : Run → Request → (Answer → List ℕ) → List Done → Type 0
 KeepsOne run r text kept = (answer : Answer) × (kept ≡ (r, Ok answer) ∷ []) × Tells run (text answer)
@@ -160,6 +176,8 @@ KeepsFile token run kept = (forest : List Item) × IsFileOf (Some run.input) for
 abbrev pub Acts : Content → Option Task → Run → List Done → Type 0
 Acts c (Some task.Apply) run kept = KeepsNone run kept ⊎ KeepsRows c run kept
 Acts c (Some task.ApplyUntilRefused) run kept = KeepsNone run kept ⊎ KeepsUntilRefused c run kept
+Acts c (Some (task.ApplyAsExpected expected stops)) run kept =
+    KeepsNone run kept ⊎ KeepsExpected c (left_of expected) stops run kept
 Acts c (Some (task.Entries token source)) run kept =
     KeepsNone run kept ⊎ OfSource c source (λ n. KeepsBatch c token n run kept)
 Acts c (Some (task.EnterTable token source form)) run kept =

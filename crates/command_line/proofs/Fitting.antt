@@ -162,8 +162,8 @@ fit_of (asked.Convert from) found e has some =
     fit_by (asked.Convert from) found (codes "convert") e has (λ rows words. meant_there set_named _ from words)
 fit_of (asked.Init file society) found e has some =
     fit_by (asked.Init file society) found (codes "init") e has (λ rows words. refl)
-fit_of (asked.Apply file stops) found e has some =
-    fit_by (asked.Apply file stops) found (codes "apply") e has (λ rows words. refl)
+fit_of (asked.Apply file stops answers) found e has some =
+    fit_by (asked.Apply file stops answers) found (codes "apply") e has (λ rows words. refl)
 fit_of (asked.Entries file source token) found e has some =
     fit_by (asked.Entries file source token) found (codes "entries") e has
     (λ rows words. both_true _ _ (there _ source words.1)

@@ -103,7 +103,7 @@ name_of Check = Some (codes "check")
 name_of CheckAll = Some (codes "check")
 name_of (Convert from) = Some (codes "convert")
 name_of (Init file society) = Some (codes "init")
-name_of (Apply file stops) = Some (codes "apply")
+name_of (Apply file stops answers) = Some (codes "apply")
 name_of (EntriesAsked file source token) = Some (codes "entries")
 name_of (EnterTable file source form token) = Some (codes "entries")
 name_of (CheckTable file source form) = Some (codes "entries")
@@ -229,7 +229,8 @@ HasWords found CheckAll = is_all found ≡ true
 HasWords found (Convert from) = IsMeant set_named (given_in found (codes "from")) from
 HasWords found (Init file society) = (file.now ≡ word_in found (codes "FILE"))
     × (society.now ≡ word_in found (codes "society"))
-HasWords found (Apply file stops) = (file.now ≡ word_in found (codes "FILE")) × (stops ≡ is_stop found)
+HasWords found (Apply file stops answers) = (file.now ≡ word_in found (codes "FILE")) × (stops ≡ is_stop found)
+    × (option_map (λ w. w.now) answers ≡ given_in found (codes "expect"))
 HasWords found (EntriesAsked file source token) =
     (file.now ≡ word_in found (codes "FILE")) × (number_word (word_in found (codes "source")) ≡ Some source)
     × (given_in found (codes "token") ≡ Some token.now) × (is_table found ≡ false) × (is_checked found ≡ false)

@@ -93,6 +93,10 @@ flag_rule name = record (new_rule name) { long = Some name; action = Some SetTru
 abbrev pub stop_rule : Rule
 stop_rule = flag_rule (codes "stop")
 
+-- `--expect ANSWERS`
+abbrev pub expect_rule : Rule
+expect_rule = option_rule (codes "expect")
+
 -- `--table`, `--check`, `--make-places` and `--dates ORDER`, any word here
 abbrev pub table_rule : Rule
 table_rule = flag_rule (codes "table")
@@ -205,7 +209,7 @@ abbrev pub init_shape : Shape
 init_shape = record (new_shape (codes "init")) { rules = file_rule ∷ society_rule ∷ [] }
 
 abbrev pub apply_shape : Shape
-apply_shape = record (new_shape (codes "apply")) { rules = file_rule ∷ stop_rule ∷ [] }
+apply_shape = record (new_shape (codes "apply")) { rules = file_rule ∷ stop_rule ∷ expect_rule ∷ [] }
 
 abbrev pub entries_shape : Shape
 entries_shape = record (new_shape (codes "entries")) {

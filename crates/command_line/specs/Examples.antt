@@ -6,6 +6,10 @@ abbrev pub stopping_words : Text → List Text
 stopping_words name =
     name ∷ codes "apply" ∷ codes "ashby.db" ∷ codes "--stop" ∷ []
 
+abbrev pub expecting_words : Text → List Text
+expecting_words name =
+    name ∷ codes "apply" ∷ codes "copy.db" ∷ codes "--expect" ∷ codes "answers.csv" ∷ []
+
 abbrev pub batch_words : Text → List Text
 batch_words name =
     name ∷ codes "entries" ∷ codes "ashby.db" ∷ codes "--source" ∷ codes "3" ∷ codes "--token" ∷ codes "page-12" ∷ []

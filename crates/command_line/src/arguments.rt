@@ -50,6 +50,14 @@ pub(crate) const STOP: Word = Word {
     numbers: None,
 };
 
+pub(crate) const EXPECT: Word = Word {
+    id: "expect",
+    help: "End before the first row that would be answered otherwise than in this file",
+    form: Form::Named("ANSWERS"),
+    needed: false,
+    numbers: None,
+};
+
 pub(crate) const SOCIETY: Word = Word {
     id: "society",
     help: "The name of the society",

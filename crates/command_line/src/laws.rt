@@ -26,6 +26,7 @@ ghost use Rattle.command_line.specs.Examples.{
   batch_words,
   days_words,
   entered_table_words,
+  expecting_words,
   html_words,
   import_words,
   plain_words,
@@ -50,7 +51,8 @@ pub fn each_command_is_taken()
 {}
 
 /// Rows are taken as the help of `apply` shows them, and end at the first that is refused where `--stop` is given, and
-/// nowhere else.
+/// nowhere else; and answers are expected of them where `--expect` is given, those of the file that is shown there, and
+/// else none.
 pub fn rows_are_taken()
     ensures taken { (name : Text) → IsTaken (name ∷ codes "apply" ∷ codes "ashby.db" ∷ []) }
     ensures whole { (name : Text) → is_stop (subcommand_of program (name ∷ codes "apply" ∷ codes "ashby.db" ∷ []))
@@ -59,6 +61,11 @@ pub fn rows_are_taken()
     ensures file { (name : Text) → word_in (subcommand_of program (stopping_words name)) (codes "FILE")
         ≡ codes "ashby.db" }
     ensures stops { (name : Text) → is_stop (subcommand_of program (stopping_words name)) ≡ true }
+    ensures unexpected { (name : Text) → given_in (subcommand_of program (stopping_words name)) (codes "expect")
+        ≡ None }
+    ensures expecting_taken { (name : Text) → IsTaken (expecting_words name) }
+    ensures answers { (name : Text) → given_in (subcommand_of program (expecting_words name)) (codes "expect")
+        ≡ Some (codes "answers.csv") }
 {}
 
 /// A batch is taken as the help of `entries` shows it, and has the file, the source and the token that are shown there;

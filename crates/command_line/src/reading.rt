@@ -91,6 +91,7 @@ fn command_named<'a>(
         "apply" => Ok(Asked::Apply {
             file: word_of(given, "FILE"),
             stops: is_yes(word_of(given, "stop")),
+            answers: given_word(given, "expect"),
         }),
         "entries" => entries_asked(alloc, given),
         "import" => Ok(Asked::Import {

@@ -51,7 +51,8 @@ review completions --help --version'
             convert:*) [[ $word != -* ]] || offered='--from --help' files= ;;
             init:--society) offered='' files= ;;
             init:*) [[ $word != -* ]] || offered='--society --help' files= ;;
-            apply:*) [[ $word != -* ]] || offered='--stop --help' files= ;;
+            apply:--expect) offered='' files=1 ;;
+            apply:*) [[ $word != -* ]] || offered='--stop --expect --help' files= ;;
             entries:--source) offered='' files= ;;
             entries:--token) offered='' files= ;;
             entries:--dates) offered='' files= ;;
@@ -148,7 +149,8 @@ macintosh ansel)'
     apply)
         _arguments '--help[Print help]' \\
             '1:The file of the archive:_files' \\
-            '--stop[End after the answer of the first row that is refused]'
+            '--stop[End after the answer of the first row that is refused]' \\
+            '--expect[End before the first row that would be answered otherwise than in this file]:ANSWERS:_files'
         ;;
     entries)
         _arguments '--help[Print help]' \\

@@ -7,7 +7,7 @@ ghost use Rattle.command_line.specs.Commands.{bare, program};
 ghost use Rattle.command_line.specs.Described.{rule_described, shape_described};
 
 use crate::arguments::{
-    AFTER, ALL, CHECKED, COUNT, CSV, FILE, FIRST_DAY, FOUND_LIMIT, GENERATIONS, HOST, HTML,
+    AFTER, ALL, CHECKED, COUNT, CSV, EXPECT, FILE, FIRST_DAY, FOUND_LIMIT, GENERATIONS, HOST, HTML,
     LAST_DAY, LIMIT, MAKES, MAYBE_SOURCE, MAYBE_TODAY, MAYBE_TOKEN, OPTION_KIND, ORDER, PLAIN,
     PORT, PROGRESS, PUBLIC, RECORD, RECORD_KIND, RECORDS, REPORT, SEARCH, SET, SHEET_KIND, SHELL,
     SOCIETY, SOURCE, STOP, TABLE, TODAY, TOKEN, WORDS, Word, arg_of,
@@ -110,7 +110,7 @@ const APPLY: CommandRow = CommandRow {
     name: "apply",
     about: APPLY_ABOUT,
     example: APPLY_EXAMPLE,
-    words: &[FILE, STOP],
+    words: &[FILE, STOP, EXPECT],
 };
 
 const ENTRIES: CommandRow = CommandRow {

@@ -24,10 +24,12 @@ pub enum Asked<'a> {
         society: &'a str,
     },
     /// `apply`: the requests of the rows of standard input on the archive in a file, their answers on standard output.
-    /// With `stops` up to the first row that is refused.
+    /// With `stops` up to the first row that is refused; and before the first that would be answered otherwise than in
+    /// the file of answers that are expected, where one is given.
     Apply {
         file: &'a str,
         stops: bool,
+        answers: Option<&'a str>,
     },
     /// `entries`: the rows of standard input as new register entries of a source of the archive in a file, under a
     /// token. The token may be any word. The source, here and below, is given by its number, or by `@` and a token.

@@ -21,6 +21,12 @@ answer, and nothing is done twice.
 With --stop no row is done after one that is refused: the status is 1 after its
 answer. Use it for rows whose numbers count on those that earlier rows get.
 
+With --expect no row is done whose answer would be another than in ANSWERS, rows
+as apply writes them: the k-th row of a token is compared with the k-th answer
+of that token, and a row without one is done. Where they differ, standard error
+gets parish: 96 NotAsExpected at row <n>, and the status is 1. Use it to send
+rows again to an older copy of FILE.
+
 Of each refused row standard error tells which one it is, counted from 1, and
 what is wrong: row <n>: <no.> <Name>: field <place> (<name>): <what>. The place
 of the token is 1, that of the verb 2.
@@ -76,7 +82,8 @@ field may be; both lie beside the source of parish.
 
 Examples:
   parish apply ashby.db < rows.csv > answers.csv
-  parish apply ashby.db --stop < rows.csv > answers.csv";
+  parish apply ashby.db --stop < rows.csv > answers.csv
+  parish apply copy.db --expect answers.csv < rows.csv > again.csv";
 
 pub(crate) const ENTRIES_ABOUT: &str =
     "Enter the rows of standard input as a batch of register entries";

@@ -25,6 +25,7 @@ use std::collections::BTreeMap;
 use std::io::Read;
 
 /// Answers that are expected, by the token of each: their texts, of which the next one is the last.
+#[derive(Debug)]
 pub struct Expected {
     texts: BTreeMap<String, Vec<Vec<u8>>>,
 }

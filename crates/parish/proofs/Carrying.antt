@@ -33,11 +33,11 @@ use Rattle.command_line.specs.declared.tasks.Asked.TheVariants as asked
 use Rattle.archive_files.specs.DatabaseOpening.{IsUntouched}
 use Rattle.archive_files.specs.declared.left.Left.{Left}
 use Rattle.devices.specs.declared.device.Device as device
-use Rattle.parish.specs.Doing.{Does, DoesImport, DoesTask, DoesUnder, Finished, IsNoToken}
+use Rattle.parish.specs.Doing.{Does, DoesImport, DoesRows, DoesTask, DoesUnder, Finished, IsNoToken}
 use Rattle.parish.specs.Lists.{find_task, list_task, review_task}
 use Rattle.parish.specs.Rows.{apply_task}
 use Rattle.parish.specs.Tables.{entering_task, table_task}
-use Rattle.parish.specs.Runs.{IsRun}
+use Rattle.parish.specs.Runs.{HasRows, IsRun}
 use Rattle.parish.specs.declared.visits.Visits.{Visits}
 use Rattle.archive_runs.specs.Runs.{Carries, Run, Stands}
 use Rattle.archive_runs.specs.Beginning.{HasNoTask, idle}
@@ -104,6 +104,15 @@ module _ {R W F D S : Type 0} {g : disk.Ghosts D} (reader : read.Ghosts R) (read
           untried (task.Import word progress) unmade.3 unmade.2 unmade.0.0
       imported true word progress (inr (token, inr did)) = besides word progress did.0
 
+      -- rows of which answers may be expected
+      rows_run : (expects stops : Bool)
+          → DoesRows reader reads writer writes faulter fails image status x y left room expects stops
+          → (t : Option Task) × HasRows expects stops t × Carries image (run t) after
+      rows_run false stops did = (Some (apply_task stops), refl, performs (apply_task stops) did)
+      rows_run true stops (inl none) = (None, inl refl, idles [] (inl none.3.0))
+      rows_run true stops (inr did) =
+          let t = task.ApplyAsExpected did.0 stops in (Some t, inr (did.0, refl), performs t did.1)
+
       -- ---- a new archive
       made_or_not : (society : List ℕ) (r : Plain) → OnOk r (IsMadeIn image society left)
           → IfErr r (λ kind. Unmade image society kind left) → HasNoTask image society left
@@ -132,8 +141,7 @@ module _ {R W F D S : Type 0} {g : disk.Ghosts D} (reader : read.Ghosts R) (read
             (None, refl, idles society.now (made_or_not society.now makes.0 makes.2 makes.3)),
             λ done. begun society.now makes.0 makes.2 finishes done,
           )
-      is_run (asked.Apply file stops) did =
-          let t = apply_task stops in ((Some t, refl, performs t did), tt)
+      is_run (asked.Apply file stops answers) did = (rows_run (is_some answers) stops did, tt)
       is_run (asked.Entries file source token) did =
           let t = task.Entries token.now source in ((Some t, refl, under token.now t did), tt)
       is_run (asked.EnterTable file source form token) did =

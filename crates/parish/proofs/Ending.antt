@@ -33,7 +33,7 @@ use Rattle.command_line.specs.declared.tasks.Asked.TheVariants as asked
 use Rattle.archive_files.specs.declared.left.Left.{Left}
 use Rattle.devices.specs.Devices.{AppendsBeginning}
 use Rattle.devices.specs.declared.device.Device as device
-use Rattle.parish.specs.Doing.{Does, DoesImport, DoesUnder, Finished, tells}
+use Rattle.parish.specs.Doing.{Does, DoesImport, DoesRows, DoesUnder, Finished, tells}
 use Rattle.parish.specs.Lists.{find_task, list_task, review_task}
 use Rattle.parish.specs.Rooms.{VisitsEnd}
 use Rattle.parish.specs.Rows.{apply_task}
@@ -102,6 +102,12 @@ module _ {D S R W F : Type 0} {g : disk.Ghosts D} (reader : read.Ghosts R) (read
       omega (arith, unmade.0.0)
   import_at_most_1 true word progress (inr (token, inr did)) = beside_at_most_1 word progress did.0
 
+  rows_at_most_1 : (expects stops : Bool)
+      → DoesRows reader reads writer writes faulter fails image status x y left room expects stops → status ≤ 1
+  rows_at_most_1 false stops did = file_at_most_1 (apply_task stops) did.0 did.1
+  rows_at_most_1 true stops (inl none) = finished_at_most_1 _ none.0
+  rows_at_most_1 true stops (inr did) = file_at_most_1 (task.ApplyAsExpected did.0 stops) did.1.0 did.1.1
+
   pub does_at_most_1 : (a : Asked) → Does reader reads writer writes faulter fails image status x y left room a
       → status ≤ 1
   does_at_most_1 asked.Norm did = finished_at_most_1 _ did.0
@@ -109,8 +115,7 @@ module _ {D S R W F : Type 0} {g : disk.Ghosts D} (reader : read.Ghosts R) (read
   does_at_most_1 asked.CheckAll did = finished_at_most_1 _ did.0
   does_at_most_1 (asked.Convert from) did = converted_at_most_1 _ _ did.0
   does_at_most_1 (asked.Init file society) did = finished_at_most_1 _ did.0
-  does_at_most_1 (asked.Apply file stops) did =
-      file_at_most_1 (apply_task stops) did.0 did.1
+  does_at_most_1 (asked.Apply file stops answers) did = rows_at_most_1 (is_some answers) stops did
   does_at_most_1 (asked.Entries file source token) did =
       under_at_most_1 token.now (task.Entries token.now source) did
   does_at_most_1 (asked.EnterTable file source form token) did =
@@ -188,7 +193,7 @@ module _ {D S R W F : Type 0} {g : disk.Ghosts D} (reader : read.Ghosts R) (read
   does_quietly asked.CheckAll did is zero = finished_quietly _ did.0 zero
   does_quietly (asked.Convert from) did is zero = absurd (true≢false is)
   does_quietly (asked.Init file society) did is zero = finished_quietly _ did.0 zero
-  does_quietly (asked.Apply file stops) did is zero = absurd (true≢false is)
+  does_quietly (asked.Apply file stops answers) did is zero = absurd (true≢false is)
   does_quietly (asked.Entries file source token) did is zero =
       under_quietly token.now (task.Entries token.now source) did refl zero
   does_quietly (asked.EnterTable file source form token) did is zero = absurd (true≢false is)

@@ -28,7 +28,7 @@ module _ {R W F D S : Type 0} {g : disk.Ghosts D} (reader : read.Ghosts R) (read
   untaken asked.CheckAll is did help = absurd (none is.0)
   untaken (asked.Convert from) is did help = absurd (none is.0)
   untaken (asked.Init file society) is did help = absurd (none is.0)
-  untaken (asked.Apply file stops) is did help = absurd (none is.0)
+  untaken (asked.Apply file stops answers) is did help = absurd (none is.0)
   untaken (asked.Entries file source token) is did help = absurd (none is.0)
   untaken (asked.EnterTable file source form token) is did help = absurd (none is.0)
   untaken (asked.CheckTable file source form) is did help = absurd (none is.0)

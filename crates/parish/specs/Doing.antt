@@ -59,6 +59,7 @@ use Rattle.archive_files.specs.DatabaseOpening.{IsUntouched}
 use Rattle.archive_files.specs.declared.left.Left.{Left}
 use Rattle.devices.specs.Devices.{Rose}
 use Rattle.devices.specs.declared.device.Device as device
+use Rattle.expected_answers.specs.declared.expected.Expected.{Expected}
 use Rattle.parish.specs.Converting.{Converts, set_of}
 use Rattle.parish.specs.Ends.{Checks, ChecksAll, Normalises, Shows}
 use Rattle.parish.specs.Lists.{find_task, list_task, review_task}
@@ -69,7 +70,7 @@ use Rattle.parish.specs.Tables.{entering_task, table_task}
 use Rattle.parish.specs.declared.visits.Visits.{Visits}
 use Rattle.receipts.specs.Tokens.{IsToken}
 use Rattle.record_text.specs.declared.refusal.RefusalKind.{RefusalKind}
-use Rattle.record_text.specs.declared.refusal.RefusalKind.TheVariants.{BadToken, OutOfMemory}
+use Rattle.record_text.specs.declared.refusal.RefusalKind.TheVariants.{BadToken, OutOfMemory, ReadFailed}
 use Rattle.archive_output.specs.declared.sheet.Sheet.{Sheet as Page}
 use Rattle.tasks.specs.Moments.{Streams}
 use Rattle.tasks.specs.Status.{Finishes, Outcome, Plain, as_text, placeless_text}
@@ -78,7 +79,7 @@ use Rattle.tasks.specs.declared.task.Task.TheVariants as task
 
 -- something may be said on the faults though the work is done
 abbrev pub tells : Asked → Bool
-tells (Apply file stops) = true
+tells (Apply file stops answers) = true
 tells (Convert from) = true
 tells (EnterTable file source form token) = true
 tells (ExportPlain file) = true
@@ -140,6 +141,19 @@ module _ {D S R W F : Type 0} {g : disk.Ghosts D} (reader : read.Ghosts R) (read
       ⊎ (IsToken word
       × ImportsReported reader reads writer writes faulter fails image status x y left room word progress)
 
+  -- ---- rows of requests
+  -- the file of answers cannot be read, or no memory was found for it
+  abbrev pub IsUnreadable : Outcome → Type 0
+  IsUnreadable outcome = (kind : RefusalKind) × (outcome ≡ Err (placeless_text kind))
+      × ((kind ≡ OutOfMemory) ⊎ (kind ≡ ReadFailed))
+
+  -- the rows were applied; where answers are expected of them these were read before, and each row was answered so, or
+  -- they cannot be read, and nothing is opened, read or written
+  abbrev pub DoesRows : Bool → Bool → Type 0
+  DoesRows false stops = DoesTask (apply_task stops)
+  DoesRows true stops = (Finished IsUnreadable × IsUnread × IsUnwritten × OpensNothing)
+      ⊎ ((expected : Expected) × DoesTask (task.ApplyAsExpected expected stops))
+
   -- ---- texts that are asked for
   abbrev pub Prints : List ℕ → Type 0
   Prints text = Finished (Shows text (writer.contents x.output) (writer.contents y.output) HasWriteFailed)
@@ -157,7 +171,7 @@ module _ {D S R W F : Type 0} {g : disk.Ghosts D} (reader : read.Ghosts R) (read
       (writer.contents x.output) (writer.contents y.output) x.faults y.faults HasReadFailed HasWriteFailed status
       × OpensNothing
   Does (Init file society) = Finished (Makes image left society.now) × IsUnread × IsUnwritten × (room ≡ None)
-  Does (Apply file stops) = DoesTask (apply_task stops)
+  Does (Apply file stops answers) = DoesRows (is_some answers) stops
   Does (Entries file source token) = DoesUnder token.now (task.Entries token.now source)
   Does (EnterTable file source form token) = DoesUnder token.now (entering_task token.now source form)
   Does (CheckTable file source form) = DoesTask (table_task source form)

@@ -1,5 +1,5 @@
 -- What a run of the program leaves of the archive's file and the log beside it. Rules of our own.
-use Rattle.std.specs.Prelude.{◌≡◌, ◌⊎◌, ⊤, [], ℕ, List, Option, Some, None}
+use Rattle.std.specs.Prelude.{◌≡◌, ◌⊎◌, ⊤, [], ℕ, Bool, true, false, List, Option, Some, None, is_some}
 use Rattle.sqlite_wal.specs.Recovery.{Image}
 use Rattle.archive_state.specs.Content.{nothing}
 use Rattle.command_line.specs.Asking.{Asks, IsTaken}
@@ -25,6 +25,7 @@ use Rattle.command_line.specs.declared.tasks.Asked.TheVariants.{
   Sheet,
   Show,
 }
+use Rattle.expected_answers.specs.declared.expected.Expected.{Expected}
 use Rattle.parish.specs.Lists.{find_task, list_task, review_task}
 use Rattle.parish.specs.Rooms.{IsSheetOf}
 use Rattle.parish.specs.Rows.{apply_task}
@@ -35,9 +36,14 @@ use Rattle.archive_output.specs.declared.sheet.Sheet.{Sheet as Page}
 use Rattle.tasks.specs.declared.task.Task.{Task}
 use Rattle.tasks.specs.declared.task.Task.TheVariants as task
 
+-- rows are applied; where answers are expected of them as these are, or not at all since the answers cannot be read
+abbrev pub HasRows : Bool → Bool → Option Task → Type 0
+HasRows false stops t = t ≡ Some (apply_task stops)
+HasRows true stops t = (t ≡ None) ⊎ ((expected : Expected) × (t ≡ Some (task.ApplyAsExpected expected stops)))
+
 -- the task on an archive that is asked for; none where none is
 abbrev pub HasTask : Asked → Option Task → Type 0
-HasTask (Apply file stops) t = t ≡ Some (apply_task stops)
+HasTask (Apply file stops answers) t = HasRows (is_some answers) stops t
 HasTask (Entries file source token) t = t ≡ Some (task.Entries token.now source)
 HasTask (EnterTable file source form token) t = t ≡ Some (entering_task token.now source form)
 HasTask (CheckTable file source form) t = t ≡ Some (table_task source form)

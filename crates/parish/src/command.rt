@@ -32,12 +32,12 @@ ghost use Rattle.parish.specs.Ends.{
   not_utf8_text,
 };
 ghost use Rattle.parish.specs.Runs.{IsRunOf};
-ghost use Rattle.parish.specs.Rows.{apply_task};
 ghost use Rattle.archive_runs.specs.Leaving.{FindsAfter};
 ghost use Rattle.archive_runs.specs.Seeing.{IsSeen, IsSeenAs};
 ghost use Rattle.tasks.specs.Faults.{IsReported};
 ghost use Rattle.tasks.specs.Status.{Finishes, placeless_text};
 
+use crate::applying::apply;
 use crate::archives::{Ended, do_task, enter, enter_table, make, open_room, take_in};
 use crate::converting::convert;
 use crate::files::{check, check_all, norm};
@@ -155,10 +155,11 @@ fn work<S: Openable, R: Read + Device, W: Write + Device, F: FaultStream>(
             let (status, left) = make(rt, file, society, start, faults);
             (status, left, None)
         }
-        Asked::Apply { file, stops } => {
-            let task = apply_task(stops);
-            do_task(rt, file, task, start, input, output, faults)
-        }
+        Asked::Apply {
+            file,
+            stops,
+            answers,
+        } => apply(rt, file, stops, answers, start, input, output, faults),
         Asked::Entries {
             file,
             source,
@@ -267,17 +268,6 @@ fn work<S: Openable, R: Read + Device, W: Write + Device, F: FaultStream>(
             Left::Untouched(start),
             None,
         ),
-    }
-}
-
-/// The rows of the input; with `stops` up to the first that is refused.
-fn apply_task(stops: bool) -> Task
-    ensures { result ≡ apply_task stops }
-{
-    if stops {
-        Task::ApplyUntilRefused
-    } else {
-        Task::Apply
     }
 }
 

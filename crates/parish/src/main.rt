@@ -9,6 +9,7 @@ ghost use Rattle.std.specs.Prelude.{◌≡◌, IfSome, None};
 ghost use Rattle.devices.specs.Devices.{Rose};
 ghost use Rattle.parish.specs.Rooms.{VisitsEnd};
 
+mod applying;
 mod archives;
 mod command;
 mod converting;

@@ -42,6 +42,7 @@ use Rattle.tasks.specs.declared.task.Task.TheVariants as task
 abbrev pub says : Task → Bool
 says task.Apply = true
 says task.ApplyUntilRefused = true
+says (task.ApplyAsExpected expected stops) = true
 says (task.Import token progress) = progress
 says (task.EnterTable token source form) = true
 says task.ExportPlain = true
@@ -115,6 +116,7 @@ module _ {S R W F : Type 0} (g : Ghosts S) (reader : read.Ghosts R) (reads : dev
       → Does g reader reads writer writes faulter fails a b t o shown → says t ≡ false → OnOk o (b.faults ≡ a.faults)
   does_quietly task.Apply a b o shown did is = absurd (true≢false is)
   does_quietly task.ApplyUntilRefused a b o shown did is = absurd (true≢false is)
+  does_quietly (task.ApplyAsExpected expected stops) a b o shown did is = absurd (true≢false is)
   does_quietly (task.Entries token source) a b o shown did is = on_ok o did.1
   does_quietly (task.EnterTable token source form) a b o shown did is = absurd (true≢false is)
   does_quietly (task.CheckTable source form) a b o shown did is = checked_quietly a b source form o did.0

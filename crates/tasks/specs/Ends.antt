@@ -41,6 +41,9 @@ use Rattle.archive_tables.specs.declared.making.MadePlace.{MadePlace}
 use Rattle.archive_tables.specs.RowBatches.{Enters, IsNoBatch}
 use Rattle.archive_state.specs.Content.{Content}
 use Rattle.archive_state.specs.Looks.{is_failure}
+use Rattle.expected_answers.specs.Expected.{left}
+use Rattle.expected_answers.specs.declared.expected.Expected.{Expected}
+use Rattle.expected_rows.specs.Expecting.{AppliedAsExpected, EndedAsExpected}
 use Rattle.request_csv.specs.Input.{row_bytes}
 use Rattle.row_references.specs.declared.words.NumberWord.{NumberWord}
 use Rattle.archive_output.specs.Ends.{AreCut, AreReversed, AreWritten}
@@ -66,6 +69,7 @@ use Rattle.archive_input.specs.RowByRow.{AppliedInTurn, EndedInTurn, Moment as R
 use Rattle.archive_input.specs.Stopping.{AppliedUntilRefused, EndedUntilRefused}
 use Rattle.tasks.specs.Checking.{Checking, IsText, IsUnread as IsUnreadTable, SaysFound, as_checked}
 use Rattle.tasks.specs.Counts.{SaysCount, SaysPart}
+use Rattle.tasks.specs.Expecting.{Expecting, SaysUnexpected, as_expected}
 use Rattle.tasks.specs.Faults.{IsReported}
 use Rattle.tasks.specs.Moments.{Moment}
 use Rattle.tasks.specs.Parts.{IsPrintedPart, PrintsAudit, Shelves}
@@ -152,6 +156,16 @@ module _ {S R W F : Type 0} (g : Ghosts S) (reader : read.Ghosts R) (reads : dev
         (row_bytes (reader.remaining a.input)) (RowsAt a) (RowsAt b))
     pub ended : IfErr r (λ kind. EndedUntilRefused g writer.contents faulter.contents kind
         (row_bytes (reader.remaining a.input)) (RowsAt a) (RowsAt b))
+    pub blamed : IfErr r IsBlamed
+
+  -- the rows as long as each is answered as is expected, and what is said of the one that would not be
+  pub record AppliesAsExpected (expected : Expected) (stops : Bool) (r : Expecting) : Type 0 where
+    pub between : F
+    pub applied : IfOk r (λ ending. AppliedAsExpected g writer.contents faulter.contents stops (left expected) ending
+        (row_bytes (reader.remaining a.input)) (RowsAt a) (record (RowsAt b) { faults = between }))
+    pub ended : IfErr r (λ kind. EndedAsExpected g writer.contents faulter.contents stops (left expected) kind
+        (row_bytes (reader.remaining a.input)) (RowsAt a) (record (RowsAt b) { faults = between }))
+    pub said : SaysUnexpected faulter.contents fails.failed r between b.faults
     pub blamed : IfErr r IsBlamed
 
   -- ---- a batch of register entries, under a token, of a source whose number a word gives
@@ -368,6 +382,8 @@ module _ {S R W F : Type 0} (g : Ghosts S) (reader : read.Ghosts R) (reads : dev
   Does task.Apply outcome shown = Ended outcome Applies × (shown ≡ None)
   Does task.ApplyUntilRefused outcome shown =
       ((r : Stopping) × (outcome ≡ as_stopped r) × AppliesUntilRefused r) × (shown ≡ None)
+  Does (task.ApplyAsExpected expected stops) outcome shown =
+      ((r : Expecting) × (outcome ≡ as_expected r) × AppliesAsExpected expected stops r) × (shown ≡ None)
   Does (task.Entries token source) outcome shown = EntersBatch token source outcome × IsQuiet × (shown ≡ None)
   Does (task.CheckTable source form) outcome shown = ChecksTable source form outcome × (shown ≡ None)
   Does (task.EnterTable token source form) outcome shown = EntersTable token source form outcome × (shown ≡ None)

@@ -1,6 +1,7 @@
 pub mod Checking
 pub mod Counts
 pub mod Ends
+pub mod Expecting
 pub mod Faults
 pub mod Hiding
 pub mod Hints

@@ -40,6 +40,7 @@ as_stopped (Err kind) = Err (placeless_text kind)
 -- first fault
 abbrev pub reporting_of : Task → Reporting
 reporting_of task.ApplyUntilRefused = Row
+reporting_of (task.ApplyAsExpected expected stops) = Row
 reporting_of (task.CheckTable source form) = Table
 reporting_of (task.EnterTable token source form) = Table
 reporting_of _ = Nothing

@@ -10,6 +10,7 @@
 mod auditing;
 mod checking;
 mod entering;
+mod expecting;
 mod faults;
 mod hints;
 mod importing;

@@ -6,6 +6,7 @@ ghost use Rattle.tasks.specs.Ends.{Does, Ends, MustReopen};
 use crate::auditing::audit_archive;
 use crate::checking::check_table;
 use crate::entering::enter_batch;
+use crate::expecting::apply_expected;
 use crate::faults::FaultStream;
 use crate::importing::import_file;
 use crate::libraries::show_library;
@@ -32,8 +33,9 @@ use store::Archive;
 /// Results go to `output`. On `faults` stands, before that line, what is wrong with each row of `Task::Apply` that is
 /// refused, what `Task::Audit` finds wrong, what a plain export leaves out, and with `progress` how far an import is.
 /// Where `Task::ApplyUntilRefused` ends at a row that is refused, the status is 1 after the line of what is wrong with
-/// it; and so it is where `Task::CheckTable` has printed what is wrong with a row, or why the input is no table, and
-/// where `Task::EnterTable` has said the first fault of a table.
+/// it; and so it is where `Task::ApplyAsExpected` ends so, or before a row that it has named, where `Task::CheckTable`
+/// has printed what is wrong with a row, or why the input is no table, and where `Task::EnterTable` has said the first
+/// fault of a table.
 ///
 /// 81: a call or a look answered 80 before, and the archive has to be opened again; nothing is read, written or
 /// changed. While an import is open, tasks that read serve, and requests are refused with 84. Else refusals are those
@@ -108,6 +110,10 @@ fn do_task<S: Alter, C: Clock, R: Read + Device, W: Write + Device, F: FaultStre
         Task::Apply => (plain(apply(alloc, archive, input, output, faults)), None),
         Task::ApplyUntilRefused => (
             stopped(apply_until_refused(alloc, archive, input, output, faults)),
+            None,
+        ),
+        Task::ApplyAsExpected { expected, stops } => (
+            apply_expected(alloc, archive, expected, stops, input, output, faults),
             None,
         ),
         Task::Entries { token, source } => (

@@ -39,6 +39,7 @@ pub(crate) fn reporting_of(task: &Task) -> Reporting
 {
     match task {
         Task::ApplyUntilRefused => Reporting::Row,
+        Task::ApplyAsExpected { .. } => Reporting::Row,
         Task::CheckTable { .. } => Reporting::Table,
         Task::EnterTable { .. } => Reporting::Table,
         _ => Reporting::Nothing,

@@ -2,6 +2,7 @@
 
 use archive_output::Sheet;
 use character_sets::CharacterSet;
+use expected_answers::Expected;
 use page_entries::DateOrder;
 use receipts::Token;
 use record_lists::Listed;
@@ -25,6 +26,12 @@ pub enum Task {
     Apply,
     /// The same of the rows up to the first that is refused.
     ApplyUntilRefused,
+    /// The same of the rows before the first that would be answered otherwise than is expected; with `stops` up to the
+    /// first that is refused.
+    ApplyAsExpected {
+        expected: Expected,
+        stops: bool,
+    },
     /// The rows of the input as register entries of a source, under a token, all of them or none. The source, here and
     /// below, is given by its number or by a token.
     Entries {

@@ -1,9 +1,9 @@
-use Rattle.std.proofs.Common.{◌≡◌, ◌∷◌, [], codes, false, refl, true}
+use Rattle.std.proofs.Common.{◌≡◌, ◌∷◌, [], None, Some, codes, false, refl, true}
 use Rattle.clap.specs.Words.{Text, fault_of, subcommand_of}
 use Rattle.clap.proofs.OnLiterals.{clap_on_literals}
-use Rattle.command_line.specs.Asking.{is_fit, is_stop, word_in}
+use Rattle.command_line.specs.Asking.{given_in, is_fit, is_stop, word_in}
 use Rattle.command_line.specs.Commands.{program}
-use Rattle.command_line.specs.Examples.{stopping_words}
+use Rattle.command_line.specs.Examples.{expecting_words, stopping_words}
 use Rattle.command_line.proofs.laws.rows_are_taken.Goals as goal
 
 no_fault : (name : Text) → fault_of program (name ∷ codes "apply" ∷ codes "ashby.db" ∷ []) ≡ []
@@ -34,6 +34,23 @@ stops_there : (name : Text) → is_stop (subcommand_of program (stopping_words n
 unfolding clap_on_literals
 stops_there name = refl
 
+none_expected : (name : Text) → given_in (subcommand_of program (stopping_words name)) (codes "expect") ≡ None
+unfolding clap_on_literals
+none_expected name = refl
+
+no_fault_expecting : (name : Text) → fault_of program (expecting_words name) ≡ []
+unfolding clap_on_literals
+no_fault_expecting name = refl
+
+fits_expecting : (name : Text) → is_fit (subcommand_of program (expecting_words name)) ≡ true
+unfolding clap_on_literals
+fits_expecting name = refl
+
+has_answers : (name : Text) → given_in (subcommand_of program (expecting_words name)) (codes "expect")
+    ≡ Some (codes "answers.csv")
+unfolding clap_on_literals
+has_answers name = refl
+
 pub returns-clause-taken : goal.returns-clause-taken
 returns-clause-taken c = λ name. (no_fault name, fits name)
 
@@ -48,3 +65,12 @@ returns-clause-file c = has_file
 
 pub returns-clause-stops : goal.returns-clause-stops
 returns-clause-stops c = stops_there
+
+pub returns-clause-unexpected : goal.returns-clause-unexpected
+returns-clause-unexpected c = none_expected
+
+pub returns-clause-expecting_taken : goal.returns-clause-expecting_taken
+returns-clause-expecting_taken c = λ name. (no_fault_expecting name, fits_expecting name)
+
+pub returns-clause-answers : goal.returns-clause-answers
+returns-clause-answers c = has_answers

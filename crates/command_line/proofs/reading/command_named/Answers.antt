@@ -8,6 +8,7 @@ pub returns-in-apply-clause-words : goal.returns-in-apply-clause-words
 returns-in-apply-clause-words c = (
   c.word_of-in-apply.ensures,
   rw (c.is_yes.ensures, c.word_of-in-apply-2.ensures) refl,
+  c.given_word.ensures,
 )
 
 pub returns-in-import-clause-words : goal.returns-in-import-clause-words
@@ -15,5 +16,5 @@ returns-in-import-clause-words c = (
   c.word_of-in-import.ensures,
   c.word_of-in-import-2.ensures,
   rw (c.is_yes-in-import.ensures, c.word_of-in-import-3.ensures) refl,
-  c.given_word.ensures,
+  c.given_word-in-import.ensures,
 )

@@ -45,7 +45,7 @@ quiet : (a : Asked) (words : List (List ℕ)) → IfSome (name_of a) (λ n. IsTa
     → ¬ (AreOfToldImport words) → ¬ (AreOfReportedImport words) → ¬ (AreOfPlainExport words)
     → ¬ (AreOfEnteredTable words)
     → tells a ≡ false
-quiet (asked.Apply file stops) words of has no_apply no_convert no_import no_report no_plain
+quiet (asked.Apply file stops answers) words of has no_apply no_convert no_import no_report no_plain
     no_table = absurd (no_apply of)
 quiet (asked.Import file token progress report) words of has no_apply no_convert no_import no_report no_plain
     no_table =

@@ -6,18 +6,11 @@ use Rattle.tasks.specs.declared.task.Task.TheVariants as task
 use Rattle.parish.proofs.Same.{between, in_task, library_on, on_day}
 use Rattle.parish.proofs.command.work.Goals as goal
 
-pub returns-in-Apply : goal.returns-in-Apply
-returns-in-Apply g c =
-    rw c.in-Apply.is (
-    in_task g.R.Read g.R.Device g.W.Write g.W.Device g.F.Write g.F.Device (image_at g.S.Start) _ _ _ _ _
-    c.apply_task-task.result _ c.apply_task-task.ensures c.do_task.ensures
-    )
-
 pub returns-in-CheckTable : goal.returns-in-CheckTable
 returns-in-CheckTable g c =
     rw c.in-CheckTable.is (
     in_task g.R.Read g.R.Device g.W.Write g.W.Device g.F.Write g.F.Device (image_at g.S.Start) _ _ _ _ _
-    c.table_task-task.result _ c.table_task-task.ensures c.do_task-in-CheckTable.ensures
+    c.table_task-task.result _ c.table_task-task.ensures c.do_task.ensures
     )
 
 pub returns-in-ExportPublic : goal.returns-in-ExportPublic

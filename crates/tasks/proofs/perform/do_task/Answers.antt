@@ -41,6 +41,9 @@ returns-in-ApplyUntilRefused g c =
       refl,
     )
 
+pub returns-in-ApplyAsExpected : goal.returns-in-ApplyAsExpected
+returns-in-ApplyAsExpected g c = rw c.in-ApplyAsExpected.is (c.apply_expected.ensures, refl)
+
 pub returns-in-Entries : goal.returns-in-Entries
 returns-in-Entries g c =
     let did = c.enter_batch.ensures in
