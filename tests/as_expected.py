@@ -4,9 +4,16 @@ is wanted is that of a slow reference in Python."""
 from __future__ import annotations
 
 import os
+import shutil
 
 from archives import ANSWERS, ROWS, Folder, faults_of
-from harness import Case, Outcome, Tools, demand, expect, refused, refused_row, run, shown, written
+from harness import WANTS, Case, Outcome, Tools, demand, expect, refused, refused_row, run, shown, written
+from refusing import built, last_growth, refusing
+
+LEAST, TRIED = 100, 300  # growths of memory that rows make at least, and of how many of them one is refused
+# Rows that name each other, and what they are answered.
+NAMING = b"a,person,Ann,F\nb,sex,@a,M\nc,event,@a,BIRT,,1900,\n"
+TOLD = b"a,ok,1,1\nb,ok,0,0\nc,ok,2,1\n"
 
 # Rows, the answers that are expected, the answers that are given, and the row at which they end; 0: at none.
 CASES = (
@@ -102,7 +109,32 @@ def no_rows(tools):
         expect(expecting(at.made(), b"", ANSWERS), written(b""))
 
 
-TESTS = (what_was_answered_before, with_stop, answers_that_cannot_be_read, an_archive_that_cannot_be_opened, no_rows)
+def want_of_memory(tools):
+    """Wherever rows that name each other are refused memory, the run says so, and calls no row unexpected."""
+    with Folder(tools) as at:
+        shutil.copy(at.made().file, at.file + ".made")
+        library, mark = built(at.path), os.path.join(at.path, "mark")
+
+        def refused_at(number, rows):
+            shutil.copy(at.file + ".made", at.file)
+            got = expecting(at, rows, TOLD, env=refusing(number, library, mark))
+            is_refused = os.path.exists(mark)
+            if is_refused:
+                os.remove(mark)
+            return is_refused, got
+
+        first, last = (last_growth(lambda number, rows=rows: refused_at(number, rows)[0]) for rows in (b"", NAMING))
+        demand(last - first > LEAST, f"rows have only {last - first} growths")
+        for number in range(max(1, first - LEAST), last, max(1, (last - first) // TRIED)):
+            _, got = refused_at(number, NAMING)
+            wants = got.status == 1 and got.err in WANTS and TOLD.startswith(got.out)
+            demand(got == written(TOLD) or wants, f"growth {number} refused: {got}")
+
+
+TESTS = (
+    what_was_answered_before, with_stop, answers_that_cannot_be_read, an_archive_that_cannot_be_opened, no_rows,
+    want_of_memory,
+)
 
 
 def cases(tools: Tools):

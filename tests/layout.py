@@ -4,7 +4,8 @@ No line of a text has more than 120 characters, but for those that cannot be bro
 a document prints, a line with one long word (an address), and those of LONGER. README.md is read by
 newcomers and has under 1,200 words. A link of a document to a file of the repository leads to one. The
 parts of documents that repeat the sources are as tests/generated.py writes them, and the calls, the
-definitions and the other names that documents cite are there. Each type and function is imported by one path.
+definitions and the other names that documents cite are there, and so is what a crate says that it uses.
+Each type and function is imported by one path.
 """
 
 from __future__ import annotations
@@ -204,9 +205,30 @@ def names():
 
 def cited_names_are_there():
     known = names()
-    texts_of = {name: CODE_BLOCK.sub("", text_of(f"docs/{name}.md")) for name in CITING}
+    paths = [f"docs/{name}.md" for name in CITING] + [f"crates/{crate}/README.md" for crate in generated.crates()]
+    texts_of = {path: CODE_BLOCK.sub("", text_of(path)) for path in paths}
     lost = [f"{name}: {word}" for name, text in texts_of.items() for word in CITED.findall(text) if word not in known]
     demand(not lost, f"documents name what is not there: {', '.join(lost[:20])}")
+
+
+USES = re.compile(r"\bIt uses [^.;:]*")
+
+
+def unused_crates(crate):
+    """What the first lines of a crate say that it uses, and its sources and definitions do not name."""
+    lines = text_of(f"crates/{crate}/src/{'lib' if source(f'crates/{crate}/src/lib.rt') else 'main'}.rt").split("\n")
+    said = " ".join(line[3:].strip() for line in lines if line.startswith("//!"))
+    paths = generated.paths(f"crates/{crate}/src/**/*.rt") + generated.paths(f"crates/{crate}/specs/**/*.antt")
+    sources = "\n".join(text_of(path) for path in paths)
+    for sentence in USES.findall(said):
+        for name in re.findall(r"`(\w+)`", sentence):
+            if not re.search(rf"^(?!\s*//).*\b{name}\b", sources, re.MULTILINE):
+                yield f"{crate}: {name}"
+
+
+def crates_use_what_they_say():
+    found = [lost for crate in generated.crates() for lost in unused_crates(crate)]
+    demand(not found, f"crates say that they use what their sources do not name: {', '.join(found)}")
 
 
 def source(path):
@@ -247,5 +269,6 @@ def cases(_tools: Tools):
     yield Case("layout: the calls that ARCHITECTURE.md names are there", calls_are_there)
     yield Case("layout: the links of ARCHITECTURE.md lead to the names before them", links_lead_to_their_names)
     yield Case("layout: the names that documents cite are there", cited_names_are_there)
+    yield Case("layout: crates use what they say that they use", crates_use_what_they_say)
     yield Case("layout: each type and function has one import path", imports_have_one_path)
     yield Case("layout: a second import path is found", second_paths_are_found)

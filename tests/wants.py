@@ -18,7 +18,7 @@ from exports import ARCHIVES
 from harness import REFUSALS, WANTS, Case, Failed, Outcome, Tools, demand, expect, refused, run, tally, written
 from imports import LEE, LEE_TOLD
 from memory import MOST, apart
-from refusing import built, refusing
+from refusing import built, last_growth, refusing
 from rooms import visited
 from undisturbed import BATCH, MERGE, UNDO, Command, Undisturbed, of_row, tables_of
 from visits import request
@@ -91,26 +91,12 @@ def each_growth(tools: Tools, command: Command, numbers: Iterable[int]) -> int:
     raise Failed("the growths have no end")
 
 
-def last_growth(whole: Undisturbed, library: str) -> int:
-    """The number of the last growth that a command makes."""
-    least, above = 1, 2
-    while is_wanting(whole, library, above):
-        least, above = above, 2 * above
-    while above - least > 1:
-        middle = (least + above) // 2
-        if is_wanting(whole, library, middle):
-            least = middle
-        else:
-            above = middle
-    return least
-
-
 def last_growths(tools: Tools, command: Command) -> int:
     """Refuses growths of the last fifth of a command, where a part of its records is written; answers how many."""
     whole = Undisturbed(tools, command)
     with whole.copy() as at:
         library = built(at.path)
-        last = last_growth(whole, library)
+        last = last_growth(lambda number: is_wanting(whole, library, number))
         demand(last > LEAST, f"it has only {last} growths")
         numbers = range(last - last // 5, last, APART)
         for number in numbers:

@@ -11,7 +11,7 @@ use Rattle.request_csv.specs.Input.{Row}
 use Rattle.row_references.specs.References.{any_number, has_references, numbered}
 use Rattle.row_references.proofs.InPlace.{all_stays, any_numbered, is_numbered, only_itself}
 use Rattle.archive_input.specs.Answers.{Served}
-use Rattle.archive_input.specs.Applying.{IsServed, IsServedAsItIs, IsServedWith}
+use Rattle.archive_input.specs.Applying.{IsServed, IsServedAsItIs, IsServedBy, IsServedWith}
 use Rattle.archive_input.specs.Referring.{IsAskedOr}
 use Rattle.archive_input.specs.Requests.{
   Asked,
@@ -60,11 +60,11 @@ pub as_it_is : (row : Row) (s : Served) → has_references row ≡ false → IsS
 as_it_is row s none h = plain_served h.0 row s none (only_itself row h.0 none h.1) h.2
 
 pub plain_ok : (known : List ℕ → Option ℕ) (row : Row) (done : Done) → has_references row ≡ false
-    → Asks row (Ok done.0) → IsServedWith (numbered known row) row (Ok done)
+    → Asks row (Ok done.0) → IsServedBy (numbered known row) row (Ok done)
 plain_ok known row done none asks = asks_plain known row (Ok done.0) none asks
 
 pub plain_err : (known : List ℕ → Option ℕ) (row : Row) (bad : BadRequest) → has_references row ≡ false
-    → Asks row (Err bad) → IsServedWith (numbered known row) row (Err bad)
+    → Asks row (Err bad) → IsServedBy (numbered known row) row (Err bad)
 plain_err known row bad none asks = inl (asks_plain known row (Err bad) none asks)
 
 only_want : (kind : RefusalKind) → is_want kind ≡ true → kind ≡ OutOfMemory
@@ -81,18 +81,26 @@ asked_or row bad asks =
     ] refl
 
 -- ---- by what is said with the numbers of an archive, with some
-pub with_any : (row : Row) (s : Served) → IsServedWith (numbered any_number row) row s → IsServed row s
-with_any row s is = (numbered any_number row, is_numbered any_number row, is)
+pub served_with : (own : Option Row) (row : Row) (s : Served) → IsServedBy own row s → IsServedWith own row s
+served_with own row (Ok done) is = is
+served_with own row (Err bad) (inl asks) = inl asks
+served_with own row (Err bad) (inr unread) = inr unread.0
+
+pub unread_any : (row : Row) (s : Served) → IsServedWith (numbered any_number row) row s → IsServed row s
+unread_any row s is = (numbered any_number row, is_numbered any_number row, is)
+
+pub with_any : (row : Row) (s : Served) → IsServedBy (numbered any_number row) row s → IsServed row s
+with_any row s is = unread_any row s (served_with (numbered any_number row) row s is)
 
 -- ---- a row whose form is wrong
 pub form_err : (own : Option Row) (row : Row) (bad : BadRequest) → Asks (in_form row) (Err bad)
-    → IsServedWith own row (Err bad)
+    → IsServedBy own row (Err bad)
 form_err own row bad asks = inl (Err bad, asks, refl)
 
 -- ---- a row whose form is right
 module _ (row : Row) (r : Request) (asks : Asks (in_form row) (Ok r)) where
   -- with any numbers
-  pub form_ok : (done : Done) → done.0 ≡ r → IsServedWith (numbered any_number row) row (Ok done)
+  pub form_ok : (done : Done) → done.0 ≡ r → IsServedBy (numbered any_number row) row (Ok done)
   form_ok done same =
       let own = any_numbered row in
       let is : in_form row ≡ own.0 = ap (λ (o : Option Row). unwrap_or o row) own.1 in
@@ -105,19 +113,24 @@ module _ (row : Row) (r : Request) (asks : Asks (in_form row) (Ok r)) where
 
   -- with these
   pub served_own : (own : Row) (s : Served) → has_references row ≡ true → IsAskedOr own s
-      → IsServedWith (Some own) row s
+      → IsServedBy (Some own) row s
   served_own own (Ok done) refers is = (Ok r, asks, is)
   served_own own (Err bad) refers (inl is) = inl (Ok r, asks, is)
-  served_own own (Err bad) refers (inr want) = inr (refers, inl want, r, asks)
+  served_own own (Err bad) refers (inr want) = inr ((refers, inl want, r, asks), want)
 
   -- one of them is missing
-  pub served_missing : IsServedWith None row (Err (refused_under r.token NoSuch))
+  pub served_missing : IsServedBy None row (Err (refused_under r.token NoSuch))
   served_missing = inl (Ok r, asks, refl)
 
   -- they were not found out
   pub served_unread : (own : Option Row) (kind : RefusalKind) → has_references row ≡ true
       → (kind ≡ OutOfMemory) ⊎ (kind ≡ BadStored) → IsServedWith own row (Err (refused_under r.token kind))
   served_unread own kind refers why = inr (refers, why, r, asks)
+
+  -- memory was refused to find them out
+  pub served_wanting : (own : Option Row) (kind : RefusalKind) → has_references row ≡ true → kind ≡ OutOfMemory
+      → IsServedBy own row (Err (refused_under r.token kind))
+  served_wanting own kind refers want = inr ((refers, inl want, r, asks), want)
 
 -- the row that was found to have any numbers
 pub form_read : (row own : Row) (r : Asked) → numbered any_number row ≡ Some own → OrWants r (Asks own)

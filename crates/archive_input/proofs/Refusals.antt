@@ -1,5 +1,5 @@
 -- Rows of which only the last may be refused.
-use Rattle.std.proofs.Common.{◌≡◌, ◌++◌, ◌∷◌, List, [], ap, arith, refl}
+use Rattle.std.proofs.Common.{◌∷◌, List, [], arith}
 use Rattle.record_text.specs.declared.refusal.Refusal.{Refusal}
 use Rattle.archive_input.specs.Answers.{Served}
 use Rattle.archive_input.specs.Stopping.{AreAccepted, IsRefusedLast, IsUpToRefusal}

@@ -12,30 +12,31 @@ use Rattle.std.proofs.Common.{
   Ok,
   Err,
   ap,
+  arith,
   inl,
   inr,
   refl,
   subst,
   sym,
 }
-use Rattle.std.specs.Prelude.{IfOk, Option, None, Result, Some, is_some}
+use Rattle.std.specs.Prelude.{IfErr, IfOk, Option, None, Result, Some, is_some}
 use Rattle.std.proofs.lemmas.Bool.{false≢true}
 use Rattle.sqlite.specs.Held.{state}
 use Rattle.sqlite.specs.State.{HasCleanDisk, State}
 use Rattle.sqlite_trees.specs.declared.store.Store.{Ghosts}
 use Rattle.archive_core.specs.Machine.{Done}
-use Rattle.archive_core.specs.Steps.{refused_at}
 use Rattle.archive_core.specs.declared.request.Request.{Request}
 use Rattle.archive_state.specs.Content.{Content}
-use Rattle.archive_state.specs.Looks.{Looked}
+use Rattle.archive_state.specs.Looks.{CountsFailures, Looked, is_failure, is_stop}
 use Rattle.csv.specs.Records.{Row as Record}
+use Rattle.devices.specs.Devices.{Rose}
 use Rattle.record_text.specs.declared.refusal.RefusalKind.{RefusalKind}
-use Rattle.record_text.specs.declared.refusal.RefusalKind.TheVariants.{Storage}
+use Rattle.record_text.specs.declared.refusal.RefusalKind.TheVariants.{BadStored, OutOfMemory, Storage}
 use Rattle.request_csv.specs.Input.{Row}
 use Rattle.row_references.specs.References.{has_references}
 use Rattle.staging.specs.Opened.{Import}
 use Rattle.store.specs.Calls.{Performs}
-use Rattle.store.specs.Histories.{Outcome}
+use Rattle.store.specs.Histories.{has_broken, is_storage}
 use Rattle.store.specs.Looking.{StaysReadable}
 use Rattle.store.specs.Shut.{is_shut}
 use Rattle.store.specs.Standing.{shuts}
@@ -46,14 +47,10 @@ use Rattle.store.proofs.Viewed.{kept_of, seen_of}
 use Rattle.store_tables.specs.Calls.{LeavesOnly, Settled}
 use Rattle.store_tables.specs.Rows.{Rows}
 use Rattle.archive_input.specs.Answers.{Served}
-use Rattle.archive_input.specs.Applying.{IsServedIn, OnlyLooks, Steps, StepsRow}
+use Rattle.archive_input.specs.Applying.{IsServedIn, OnlyLooks, Steps, StepsRow, failing}
 use Rattle.archive_input.specs.declared.bad_request.BadRequest.{BadRequest}
 
 -- ---- looks, by the tables
--- the outcome of a request of which nobody knows whether it was done
-abbrev pub failing : Outcome
-failing = Err (refused_at None Storage)
-
 module _ (old new : State) (lost : Bool) (stays : StaysReadable old lost new) where
   pub performs_looked : lost ≡ false → Performs old [] new
   performs_looked sure = record {
@@ -85,7 +82,8 @@ pub viewed_looks : (old new : State) (lost lost_now : Bool) (failures failures_n
     → failures ≡ 0 → ((rows : Rows) → Settled old rows → LeavesOnly old rows)
     → (HasCleanDisk new → HasCleanDisk old × ((kept : Kept) → Shows old lost failures kept
     → Shows new lost_now failures_now kept × P kept.content))
-    → HasCleanDisk new → StaysReadable old lost_now new × OnReadable old (λ rows c. P c)
+    → HasCleanDisk new → StaysReadable old lost_now new
+    × OnReadable old (λ rows c. P c × (lost_now ≡ false → failures_now ≡ 0))
 viewed_looks old new lost lost_now failures failures_now P none leaves viewed clean =
     let at = viewed clean in (
       record {
@@ -95,8 +93,10 @@ viewed_looks old new lost lost_now failures failures_now P none leaves viewed cl
             (record { crash = leaves rows was; settled = λ _. was; none = λ _. none })).0.crash;
         clean = at.0;
       },
-      λ rows c was seen. (at.1 (kept_of rows c seen)
-          (record { crash = leaves rows was; settled = λ _. was; none = λ _. none })).1,
+      λ rows c was seen.
+          let found = at.1 (kept_of rows c seen)
+          (record { crash = leaves rows was; settled = λ _. was; none = λ _. none }) in
+          (found.1, found.0.none),
     )
 
 -- what is handed on of what looks have found
@@ -115,12 +115,56 @@ module _ (found kept : Result (Option Record) RefusalKind) (P : Option Record �
         | Err kind ↦ λ same. tt
       ] is
 
-pub found_then : (old new : State) (lost : Bool) (found kept : Result (Option Record) RefusalKind)
+-- looks of which none failed found an answer, unless memory was refused
+module _ (lost : Bool) (failures : ℕ) (found kept : Result (Option Record) RefusalKind) (P : Option Record → Type 0)
+    (counts : CountsFailures 0 failures found) (broken : has_broken kept ≡ lost)
+    (own : lost ≡ false → IfOk found (λ x. kept ≡ Ok x))
+    (want : lost ≡ false → found ≡ Err OutOfMemory → kept ≡ Err OutOfMemory) where
+  not_risen : failures ≡ 0 → Rose 0 failures → ⊥
+  not_risen none (inl less) = absurd (omega (arith, less, none))
+  not_risen none (inr most) = absurd (omega (arith, most, none))
+
+  only_want : (kind : RefusalKind) → is_stop kind ≡ true → (is_failure kind ≡ true → ⊥) → kind ≡ OutOfMemory
+  only_want OutOfMemory stop none = refl
+  only_want BadStored stop none = absurd (none refl)
+  only_want Storage stop none = absurd (none refl)
+  only_want kind stop none = let wrong : ⊥ = cc in absurd wrong
+
+  wants_only : (lost ≡ false → failures ≡ 0) → lost ≡ false → Looked found P → IfErr kept (λ kind. kind ≡ OutOfMemory)
+  wants_only none sure looked = elim found as (λ (r : Result (Option Record) RefusalKind).
+      CountsFailures 0 failures r → IfOk r (λ x. kept ≡ Ok x) → (r ≡ Err OutOfMemory → kept ≡ Err OutOfMemory)
+      → Looked r P → IfErr kept (λ kind. kind ≡ OutOfMemory)) [
+        | Ok x ↦ λ _ same _ _. subst (λ (r : Result (Option Record) RefusalKind). IfErr r (λ kind. kind ≡ OutOfMemory))
+            (sym same) tt
+        | Err e ↦ λ counted _ wanted stop.
+            let is = only_want e stop (λ failed. not_risen (none sure) (counted.1 failed)) in
+            subst (λ (r : Result (Option Record) RefusalKind). IfErr r (λ kind. kind ≡ OutOfMemory))
+            (sym (wanted (ap (λ (kind : RefusalKind). Err kind) is))) refl
+      ] counts (own sure) (want sure) looked
+
+  pub wanting : (lost ≡ false → failures ≡ 0) → Looked found P
+      → IfErr kept (λ kind. is_storage kind ≡ false → kind ≡ OutOfMemory)
+  wanting none looked = elim kept as (λ (r : Result (Option Record) RefusalKind). has_broken r ≡ lost
+      → (lost ≡ false → IfErr r (λ kind. kind ≡ OutOfMemory))
+      → IfErr r (λ kind. is_storage kind ≡ false → kind ≡ OutOfMemory)) [
+        | Ok x ↦ λ _ _. tt
+        | Err kind ↦ λ is only sound. only (sym is ∙ sound)
+      ] broken (λ sure. wants_only none sure looked)
+
+pub found_then : (old new : State) (lost : Bool) (failures : ℕ) (found kept : Result (Option Record) RefusalKind)
     (P : Content → Option Record → Type 0) → IfOk kept (λ own. found ≡ Ok own)
-    → (HasCleanDisk new → StaysReadable old lost new × OnReadable old (λ rows c. Looked found (P c)))
-    → HasCleanDisk new → StaysReadable old lost new × OnReadable old (λ rows c. IfOk kept (P c))
-found_then old new lost found kept P is looks clean =
-    let seen = looks clean in (seen.0, λ rows c was keeps. looked_then found kept (P c) is (seen.1 rows c was keeps))
+    → ((c : Content) → (lost ≡ false → failures ≡ 0) → Looked found (P c)
+    → IfErr kept (λ kind. is_storage kind ≡ false → kind ≡ OutOfMemory))
+    → (HasCleanDisk new → StaysReadable old lost new
+    × OnReadable old (λ rows c. Looked found (P c) × (lost ≡ false → failures ≡ 0)))
+    → HasCleanDisk new → StaysReadable old lost new × OnReadable old (λ rows c. IfOk kept (P c)
+    × IfErr kept (λ kind. is_storage kind ≡ false → kind ≡ OutOfMemory))
+found_then old new lost failures found kept P is wants looks clean =
+    let seen = looks clean in (
+      seen.0,
+      λ rows c was keeps.
+          let at = seen.1 rows c was keeps in (looked_then found kept (P c) is at.0, wants c at.1 at.0),
+    )
 
 -- ---- archives
 module _ {S : Type 0} (g : Ghosts S) where

@@ -9,6 +9,7 @@ use Rattle.devices.specs.Devices.{AppendsBeginning}
 use Rattle.record_text.specs.declared.refusal.RefusalKind.{RefusalKind}
 use Rattle.record_text.specs.declared.refusal.RefusalKind.TheVariants.{OutOfMemory, ReadFailed, Storage, WriteFailed}
 use Rattle.archive_core.specs.Machine.{Done, Runs}
+use Rattle.archive_core.specs.Steps.{refused_at}
 use Rattle.archive_state.specs.Content.{Content}
 use Rattle.store.specs.Archives.{HasArchive}
 use Rattle.store.specs.Calls.{OnArchive, Performs}
@@ -38,6 +39,11 @@ abbrev pub IsServedWith : Option Row → Row → Served → Type 0
 IsServedWith own row (Ok done) = AsksWith own row (Ok done.0)
 IsServedWith own row (Err bad) = AsksWith own row (Err bad) ⊎ IsUnread row bad
 
+-- the same of an archive that can be read: its references were found out unless memory was refused
+abbrev pub IsServedBy : Option Row → Row → Served → Type 0
+IsServedBy own row (Ok done) = AsksWith own row (Ok done.0)
+IsServedBy own row (Err bad) = AsksWith own row (Err bad) ⊎ (IsUnread row bad × (bad.kind ≡ OutOfMemory))
+
 -- a row was served as it asks with some numbers; with which is said of the archive before it (`IsServedIn`)
 abbrev pub IsServed : Row → Served → Type 0
 IsServed row s = (own : Option Row) × IsNumbered row own × IsServedWith own row s
@@ -50,7 +56,7 @@ IsServedAsItIs row (Err bad) = Asks row (Err bad)
 -- a row was served as it asks with the numbers that its tokens have in what an archive holds; of a request that is in
 -- doubt they are not known
 abbrev pub IsServedOver : Content → Row → Served → Type 0
-IsServedOver c row s = is_in_doubt s ≡ false → IsServedWith (numbered (kept_number c) row) row s
+IsServedOver c row s = is_in_doubt s ≡ false → IsServedBy (numbered (kept_number c) row) row s
 
 -- each row was, in their order
 abbrev pub AreServed : List Row → List Served → Type 0
@@ -75,6 +81,10 @@ abbrev pub answers : List Served → List ℕ
 answers served = flat_map answer_to served
 
 -- ---- the archive and the writer
+-- nobody knows whether the request was done
+abbrev pub failing : Outcome
+failing = Err (refused_at None Storage)
+
 -- requests performed on an archive that took them, while the disk is clean
 abbrev pub PerformsAll : {S : Type 0} → (g : Ghosts S) → Archive S g → List Done → Archive S g → Type 0
 PerformsAll g old calls new =

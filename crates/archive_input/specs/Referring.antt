@@ -1,5 +1,19 @@
 -- How a row is answered whose references are looked for in the archive before it. Rules of our own.
-use Rattle.std.specs.Prelude.{◌≡◌, ◌⊎◌, ℕ, List, Option, Result, Ok, Err, IfOk, MatchBool, false, option_map}
+use Rattle.std.specs.Prelude.{
+  ◌≡◌,
+  ◌⊎◌,
+  ℕ,
+  List,
+  Option,
+  Result,
+  Ok,
+  Err,
+  IfErr,
+  IfOk,
+  MatchBool,
+  false,
+  option_map,
+}
 use Rattle.std.specs.Io.KnownBytes.{Appends}
 use Rattle.sqlite.specs.Held.{state}
 use Rattle.sqlite.specs.State.{HasCleanDisk}
@@ -9,6 +23,7 @@ use Rattle.csv.specs.Records.{Row as Record, fields_of}
 use Rattle.record_text.specs.declared.refusal.RefusalKind.{RefusalKind}
 use Rattle.record_text.specs.declared.refusal.RefusalKind.TheVariants.{OutOfMemory, Storage}
 use Rattle.row_references.specs.References.{kept_number, numbered}
+use Rattle.store.specs.Histories.{is_storage}
 use Rattle.store.specs.Looking.{StaysReadable}
 use Rattle.store.specs.Viewing.{OnReadable}
 use Rattle.store.specs.declared.archive.Archive.{Archive}
@@ -44,9 +59,11 @@ abbrev pub IsAskedOr : Row → Served → Type 0
 IsAskedOr row (Ok done) = Asks row (Ok done.0)
 IsAskedOr row (Err bad) = Asks row (Err bad) ⊎ (bad.kind ≡ OutOfMemory)
 
--- what was found is the row with the numbers that an archive has in place of its references
+-- what was found is the row with the numbers that an archive has in place of its references; or memory was refused, or
+-- the looks lost the archive
 abbrev pub Numbered : Result (Option Record) RefusalKind → Row → Content → Type 0
 Numbered found row c = IfOk found (λ own. option_map fields_of own ≡ numbered (kept_number c) row)
+    × IfErr found (λ kind. is_storage kind ≡ false → kind ≡ OutOfMemory)
 
 -- looks that found this of what the archive holds, which stays
 abbrev pub LooksUp : {S : Type 0} → (g : Ghosts S) → Row → Archive S g → Result (Option Record) RefusalKind

@@ -124,7 +124,7 @@ fn apply_blaming<S: Alter, R: Read + Device, W: Write + Device, F: Write + Devic
 }
 
 /// Why a call ended early: the reader is blamed only where its count of failures has risen.
-fn blamed(kind: RefusalKind, risen: bool) -> RefusalKind
+pub fn blamed(kind: RefusalKind, risen: bool) -> RefusalKind
     ensures { ((result ≡ kind) × (kind ≡ refusal.ReadFailed → IsTrue risen))
         ⊎ ((kind ≡ refusal.ReadFailed) × (result ≡ refusal.OutOfMemory)) }
 {

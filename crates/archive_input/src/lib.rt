@@ -24,12 +24,12 @@ mod serving;
 mod telling;
 
 pub use answers::{bad_text, outcome_text};
-pub use applying::{apply, apply_until_refused, row_place, stop_at};
+pub use applying::{apply, apply_until_refused, blamed, row_place, stop_at};
 pub use bad_request::BadRequest;
 pub use entering::perform_once;
 pub use faults::refusal_of;
 pub use import_telling::{import_text, push_lines};
 pub use importing::{import_forest, read_file};
 pub use request::{read_in_form, read_request};
-pub use serving::{answer_outcome, answer_refused, look_up, serve_row};
+pub use serving::{answer_outcome, answer_refused, has_failed, look_up, serve_row};
 pub use telling::tell_fault;

@@ -205,7 +205,7 @@ fn serve_looked<S: Alter, W: Write + Device>(
 }
 
 /// The row with its numbers in place of its references, by looks at an archive that takes requests. `None`: one of them
-/// has no number. 80: the looks lost the archive. 1, 40: they failed otherwise.
+/// has no number. 80: the looks lost the archive. 1: memory was refused. 40: what the archive holds cannot be read.
 pub fn look_up<S: Alter>(
     alloc: Global,
     archive: &mut Archive<S>,
@@ -231,6 +231,8 @@ fn unless_lost(
 ) -> Result<Option<ByteRecord>, RefusalKind>
     ensures lost { has_broken result ≡ is_lost }
     ensures found { IfOk result (λ own. found ≡ Ok own) }
+    ensures kept { is_lost ≡ false → IfOk found (λ own. result ≡ Ok own) }
+    ensures wanted { is_lost ≡ false → found ≡ Err refusal.OutOfMemory → result ≡ Err refusal.OutOfMemory }
     ensures stops { IfErr result (λ kind. is_storage kind ≡ false
         → (kind ≡ refusal.OutOfMemory) ⊎ (kind ≡ refusal.BadStored)) }
 {
@@ -245,7 +247,8 @@ fn unless_lost(
 
 /// Why the references of a row were not found out: 1 or 40.
 fn unread(kind: RefusalKind) -> RefusalKind
-    ensures { (result ≡ refusal.OutOfMemory) ⊎ (result ≡ refusal.BadStored) }
+    ensures is { (result ≡ refusal.OutOfMemory) ⊎ (result ≡ refusal.BadStored) }
+    ensures wanted { kind ≡ refusal.OutOfMemory → result ≡ refusal.OutOfMemory }
 {
     match kind {
         RefusalKind::OutOfMemory => kind,
@@ -396,7 +399,7 @@ fn refusal_in(outcome: Result<Answer, Refusal>) -> Option<RefusalKind>
 }
 
 /// Whether the database failed at a request.
-fn has_failed(outcome: Result<Answer, Refusal>) -> bool
+pub fn has_failed(outcome: Result<Answer, Refusal>) -> bool
     ensures { result ≡ has_failed outcome }
 {
     match outcome {

@@ -15,17 +15,13 @@ use Rattle.std.proofs.Common.{
   Err,
   add-one,
   ap,
-  arith,
   false,
   get_or,
   inl,
   inr,
   length,
-  length-append,
-  map,
   refl,
   subst,
-  suc,
   sym,
   take,
   true,
@@ -40,7 +36,7 @@ use Rattle.receipts.specs.declared.answer.Answer.{Answer}
 use Rattle.record_text.specs.declared.refusal.Refusal.{Refusal}
 use Rattle.record_text.specs.declared.refusal.RefusalKind.{RefusalKind}
 use Rattle.record_text.specs.declared.refusal.RefusalKind.TheVariants.{OutOfMemory}
-use Rattle.store.specs.Histories.{Outcome, has_broken, is_storage, must_reopen}
+use Rattle.store.specs.Histories.{Outcome, has_broken, must_reopen}
 use Rattle.store.specs.Shut.{is_shut}
 use Rattle.store.specs.Standing.{must_wait}
 use Rattle.store.specs.declared.archive.Archive.{Archive}

@@ -1,25 +1,6 @@
 -- What was entered after looks for the number of a source, as what is said of the archive before them.
-use Rattle.std.proofs.Common.{
-  ◌≡◌,
-  ◌⊎◌,
-  ◌∙◌,
-  ℕ,
-  Bool,
-  List,
-  [],
-  ◌∷◌,
-  true,
-  false,
-  Ok,
-  Err,
-  ap,
-  inl,
-  inr,
-  refl,
-  subst,
-  sym,
-}
-use Rattle.std.specs.Prelude.{Option, None, Some, Result}
+use Rattle.std.proofs.Common.{◌≡◌, ◌∙◌, ℕ, Bool, List, [], ◌∷◌, true, false, Ok, Err, ap, inl, inr, refl, subst, sym}
+use Rattle.std.specs.Prelude.{Option, Result}
 use Rattle.sqlite.specs.Held.{state}
 use Rattle.sqlite.specs.State.{HasCleanDisk, State}
 use Rattle.sqlite_trees.specs.declared.store.Store.{Ghosts}

@@ -1,8 +1,8 @@
 -- A page that was tried, by its request.
-use Rattle.std.proofs.Common.{◌≡◌, ◌∙◌, ℕ, List, Ok, Err, ap, false, inl, inr, refl, subst, sym, true}
+use Rattle.std.proofs.Common.{◌≡◌, ◌∙◌, ℕ, List, Ok, ap, subst, sym}
 use Rattle.std.specs.Prelude.{Result}
 use Rattle.archive_state.specs.Content.{Content}
-use Rattle.archive_state.specs.Looks.{Looked, is_failure, is_stop}
+use Rattle.archive_state.specs.Looks.{Looked}
 use Rattle.archive_core.specs.Machine.{outcome}
 use Rattle.archive_core.specs.declared.request.Request.{Request}
 use Rattle.commands.specs.declared.entry_row.EntryRow.{EntryRow}

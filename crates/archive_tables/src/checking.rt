@@ -1,13 +1,12 @@
 //! A page of register entries, looked over against an archive that is open.
 
-ghost use Rattle.std.specs.Prelude.{◌≡◌, ◌≢◌, ◌⊎◌, Err, Ok, false, true, IfErr, IfOk, OnOk, string_bytes};
-ghost use Rattle.std.specs.Io.KnownBytes.{Appends, Keeps};
+ghost use Rattle.std.specs.Prelude.{◌≡◌, ◌≢◌, Err, Ok, false, true, IfErr, IfOk};
+ghost use Rattle.std.specs.Io.KnownBytes.{Keeps};
 ghost use Rattle.sqlite.specs.Held.{state};
 ghost use Rattle.archive_output.specs.Reading.{OnlyReads};
 ghost use Rattle.archive_state.specs.Looks.{Agrees, CountsFailures, is_failure, is_stop};
 ghost use Rattle.archive_state.specs.Views.{On};
-ghost use Rattle.devices.specs.Devices.{AppendsBeginning, Rose};
-ghost use Rattle.page_checks.specs.Unread.{lines};
+ghost use Rattle.devices.specs.Devices.{Rose};
 ghost use Rattle.record_text.specs.declared.refusal.RefusalKind.TheVariants.{OutOfMemory, WriteFailed};
 ghost use Rattle.store.specs.Histories.{has_broken, is_storage};
 ghost use Rattle.table_pages.specs.Sheets.{sheet_of};

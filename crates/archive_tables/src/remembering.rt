@@ -1,6 +1,6 @@
 //! The history of a number of an archive that is open, written.
 
-ghost use Rattle.std.specs.Prelude.{◌≡◌, ◌≢◌, ◌⊎◌, false, true, IfErr, option_map};
+ghost use Rattle.std.specs.Prelude.{◌≡◌, ◌≢◌, ◌⊎◌, false, true, IfErr};
 ghost use Rattle.std.specs.Io.KnownBytes.{Keeps};
 ghost use Rattle.sqlite.specs.Held.{state};
 ghost use Rattle.archive_output.specs.Reading.{OnlyReads};
@@ -12,7 +12,6 @@ ghost use Rattle.store.specs.Histories.{has_broken, is_storage};
 ghost use Rattle.store_tables.specs.Looking.{IsFailure};
 ghost use Rattle.archive_tables.specs.Ends.{EndsWriting, OnRead, OnRows};
 ghost use Rattle.archive_tables.specs.Remembering.{EndsHistory};
-ghost use Rattle.archive_tables.specs.Texts as texts;
 
 use crate::writing::write_found;
 use devices::Device;

@@ -2,11 +2,12 @@
 use Rattle.std.proofs.Common.{ℕ, List, Option, Ok, Err, inl, inr, refl, subst}
 use Rattle.sqlite_trees.specs.declared.store.Store.{Ghosts}
 use Rattle.archive_core.specs.declared.request.Request.{Request}
+use Rattle.commands.specs.Rows.{is_want}
 use Rattle.record_text.specs.declared.refusal.RefusalKind.{RefusalKind}
 use Rattle.request_csv.specs.Input.{Row}
 use Rattle.store.specs.declared.archive.Archive.{Archive}
 use Rattle.archive_input.specs.Answers.{answer_text}
-use Rattle.archive_input.specs.Applying.{WritesPart}
+use Rattle.archive_input.specs.Applying.{WritesPart, failing}
 use Rattle.archive_input.specs.RowByRow.{IsTold, Moment}
 use Rattle.archive_input.specs.declared.bad_request.BadRequest.{BadRequest}
 use Rattle.expected_rows.specs.Expecting.{Left, OnlyLooked}
@@ -20,10 +21,10 @@ use Rattle.expected_rows.specs.Meeting.{
   Meets,
   PerformsExpected,
   RefusesExpected,
-  failing,
 }
 use Rattle.expected_rows.specs.declared.meeting.Met.{Met}
 use Rattle.expected_rows.specs.declared.meeting.Met.TheVariants as met
+use Rattle.expected_rows.proofs.Asking.{not_want}
 use Rattle.expected_rows.proofs.Looked.{does_after, looked_on, steps_after, within_looked, within_steps, would_after}
 
 module _ {S : Type 0} (g : Ghosts S) where
@@ -52,6 +53,7 @@ module _ {S : Type 0} (g : Ghosts S) where
         asked_in = within_looked g old mid new looked row (Ok (r, h.0)) h.1.looked (asks.within h.0);
         would_be = would_after g old mid new looked (Ok (r, h.0)) h.1.looked h.1.would_be;
         otherwise = h.2;
+        known = h.1.known;
         looked = looked_on g old mid new looked h.1.looked;
       },
       h.3,
@@ -85,6 +87,7 @@ module _ {S : Type 0} (g : Ghosts S) where
         asked_in = asks.within failing;
         would_be = λ clean was society c rows settled keeps. tt;
         otherwise = h.0;
+        known = not_want (is_want bad.kind) asks.known;
         looked = looked;
       },
       h.1,

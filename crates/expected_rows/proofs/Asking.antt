@@ -15,15 +15,16 @@ use Rattle.store.specs.Histories.{Outcome, is_storage}
 use Rattle.store.specs.Looking.{StaysReadable}
 use Rattle.store.specs.Shut.{is_shut}
 use Rattle.store.specs.declared.archive.Archive.{Archive}
+use Rattle.archive_input.specs.Applying.{failing}
 use Rattle.archive_input.specs.Referring.{IsAskedOr}
 use Rattle.archive_input.specs.Requests.{Asked, Asks, OrWants, in_form}
 use Rattle.archive_input.specs.declared.bad_request.BadRequest.{BadRequest}
 use Rattle.archive_input.proofs.Asked.{asked_or, form_err, form_ok, plain_err, plain_ok, with_any}
 use Rattle.archive_input.proofs.Stepped.{free_of, not_asked, shut_lost, steps_failing}
-use Rattle.expected_rows.specs.Meeting.{AsksOf, EndsAsking, as_served, failing, is_read}
+use Rattle.expected_rows.specs.Meeting.{AsksOf, EndsAsking, as_served, is_read}
 use Rattle.expected_rows.proofs.Looked.{looks_only}
 
-not_want : (b : Bool) → not b ≡ true → b ≡ false
+pub not_want : (b : Bool) → not b ≡ true → b ≡ false
 not_want true e = absurd (false≢true e)
 not_want false e = refl
 
@@ -34,6 +35,7 @@ module _ {S : Type 0} (g : Ghosts S) (row : Row) (archive : Archive S g) where
   of_plain (Ok r) none read asks = record {
     is = λ o. with_any row (Ok (r, o)) (plain_ok any_number row (r, o) none asks);
     within = λ o clean was society c rows settled keeps sure. plain_ok (kept_number c) row (r, o) none asks;
+    known = refl;
     looked = inl refl;
   }
   of_plain (Err bad) none read asks =
@@ -41,6 +43,7 @@ module _ {S : Type 0} (g : Ghosts S) (row : Row) (archive : Archive S g) where
       record {
         is = λ o. with_any row (Err bad) (plain_err any_number row bad none so);
         within = λ o clean was society c rows settled keeps sure. plain_err (kept_number c) row bad none so;
+        known = read;
         looked = inl refl;
       }
 
@@ -59,6 +62,7 @@ module _ {S : Type 0} (g : Ghosts S) (row : Row) (archive : Archive S g) where
       subst (λ (a : Asked). AsksOf g row a archive archive) (sym kept.0) (record {
         is = λ o. with_any row (Err bad) (form_err (numbered any_number row) row bad so);
         within = λ o clean was society c rows settled keeps sure. form_err (numbered (kept_number c) row) row bad so;
+        known = read;
         looked = inl refl;
       })
 
@@ -68,8 +72,14 @@ module _ {S : Type 0} (g : Ghosts S) (row : Row) (archive : Archive S g) where
   asks_shut r asks shut = record {
     is = λ o. with_any row (Ok (r, o)) (form_ok row r asks (r, o) refl);
     within = λ o. not_asked g row (Ok (r, o)) archive archive shut;
+    known = refl;
     looked = inl refl;
   }
+
+-- memory was found to read what was read
+pub read_known : (asked read : Asked) → asked ≡ read → OnErr asked (is_read read ≡ true) → is_read asked ≡ true
+read_known (Ok r) read same known = refl
+read_known (Err bad) read same known = ap is_read same ∙ known
 
 -- what is read of the row with its numbers
 pub read_own : (own : Row) (asked : Asked) → OrWants asked (Asks own) → (o : Outcome)

@@ -23,7 +23,7 @@ use Rattle.std.proofs.Common.{
   sym,
   true≢false,
 }
-use Rattle.std.specs.Prelude.{Result}
+use Rattle.std.specs.Prelude.{Result, cond}
 use Rattle.std.proofs.lemmas.Result.{IfErr-weaker}
 use Rattle.sqlite.specs.Held.{state}
 use Rattle.sqlite.specs.State.{HasCleanDisk, State}
@@ -41,16 +41,17 @@ use Rattle.record_text.specs.declared.refusal.Refusal.{Refusal}
 use Rattle.record_text.specs.declared.refusal.RefusalKind.{RefusalKind}
 use Rattle.record_text.specs.declared.refusal.RefusalKind.TheVariants.{BadStored, OutOfMemory, Storage}
 use Rattle.store.proofs.Viewed.{kept_of, seen_of}
-use Rattle.store.specs.Histories.{Outcome}
+use Rattle.store.specs.Histories.{Outcome, must_reopen}
 use Rattle.store.specs.Looking.{StaysReadable}
 use Rattle.store.specs.Shut.{is_shut}
+use Rattle.store.specs.Standing.{must_wait}
 use Rattle.store.specs.Viewing.{Kept, OnReadable, Shows}
 use Rattle.store.specs.declared.archive.Archive.{Archive}
 use Rattle.store_tables.specs.Calls.{LeavesOnly, Settled}
 use Rattle.store_tables.specs.Rows.{Rows}
 use Rattle.archive_input.specs.Applying.{RefusesAll, Steps}
 use Rattle.archive_input.proofs.Stepped.{free_of, performs_failing, shut_lost}
-use Rattle.expected_rows.specs.Expecting.{DoesExpected, Left, OnlyLooked, WouldBe, is_expected}
+use Rattle.expected_rows.specs.Expecting.{DoesExpected, Left, OnlyLooked, WouldBe, is_expected, is_wanting}
 use Rattle.expected_rows.specs.Meeting.{DecidesSurely, EndsForeseeing, Foresees, Foretells, LooksDeciding}
 use Rattle.expected_rows.proofs.Looked.{looks_only}
 
@@ -90,6 +91,11 @@ would_of c r (Ok changes) o foretold sure =
     subst (λ (x : Outcome). WouldBe c (Ok (r, x))) (sym foretold) (applied c changes, sure.0)
 would_of c r (Err e) o foretold sure =
     subst (λ (x : Outcome). WouldBe c (Ok (r, x))) (sym foretold.0) (sure.0 (not_stop e.kind foretold.1 sure.1))
+
+known_of : (r : Request) (decided : Result Changes Refusal) (o : Outcome) → Foretells decided o
+    → is_wanting (Ok (r, o)) ≡ false
+known_of r (Ok changes) o foretold = subst (λ (x : Outcome). is_wanting (Ok (r, x)) ≡ false) (sym foretold) refl
+known_of r (Err e) o foretold = subst (λ (x : Outcome). is_wanting (Ok (r, x)) ≡ false) (sym foretold.0) foretold.1
 
 -- ---- looks at an archive that decide a request
 pub viewed_deciding : (old new : State) (lost lost_now : Bool) (failures failures_now : ℕ) (r : Request)
@@ -148,10 +154,15 @@ module _ {S : Type 0} (g : Ghosts S) where
       (subst (λ (k : Content). outcome k r ≡ Ok (runs.0, answer)) still.1 runs.1)
 
   -- an archive that takes no requests
+  shut_known : (r : Request) (lost : Bool) → is_wanting (Ok (r, cond lost must_reopen must_wait)) ≡ false
+  shut_known r true = refl
+  shut_known r false = refl
+
   pub foreseen_shut : (r : Request) (o : Outcome) (old new : Archive S g) → is_shut old ≡ true
       → RefusesAll g old ((r, o) ∷ []) new → Foresees g r o old new
   foreseen_shut r o old new shut refused = record {
     would_be = λ clean was. absurd (true≢false (sym shut ∙ was));
+    known = subst (λ (x : Outcome). is_wanting (Ok (r, x)) ≡ false) (sym (refused shut).0.0) (shut_known r old.is_lost);
     looked = record {
       free = λ was. absurd (true≢false (sym shut ∙ was));
       performed = λ clean was. absurd (true≢false (sym shut ∙ was));
@@ -172,6 +183,7 @@ module _ {S : Type 0} (g : Ghosts S) where
     foreseen sure o foretold = record {
       would_be = λ clean _ society c rows settled keeps.
           would_of c r decided o foretold ((looked clean).1 rows c settled (seen_of keeps) sure);
+      known = known_of r decided o foretold;
       looked = only_looked sure;
     }
 

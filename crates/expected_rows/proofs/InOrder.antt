@@ -168,6 +168,7 @@ module _ {S W F : Type 0} (g : Ghosts S) (written : W → Option (List ℕ)) (to
       asked_in = is.asked_in;
       would_be = is.would_be;
       otherwise = sym (expected_same now (left_after left served) is.served so.remains) ∙ is.otherwise;
+      known = is.known;
       looked = is.looked;
     }
 

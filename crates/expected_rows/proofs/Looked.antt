@@ -5,9 +5,6 @@ use Rattle.std.proofs.Common.{
   ◌∷◌,
   ◌⊎◌,
   [],
-  ℕ,
-  List,
-  Option,
   true,
   false,
   Ok,
@@ -18,20 +15,19 @@ use Rattle.std.proofs.Common.{
   sym,
 }
 use Rattle.std.proofs.lemmas.Bool.{false≢true}
-use Rattle.std.proofs.lemmas.List.{append-nil}
 use Rattle.sqlite.specs.Held.{state}
 use Rattle.sqlite.specs.State.{HasCleanDisk}
 use Rattle.sqlite_trees.specs.declared.store.Store.{Ghosts}
 use Rattle.archive_core.specs.Machine.{Done}
 use Rattle.archive_state.specs.Content.{Content}
 use Rattle.request_csv.specs.Input.{Row}
-use Rattle.store.specs.Calls.{OnArchive, Performs}
+use Rattle.store.specs.Calls.{OnArchive}
 use Rattle.store.specs.Looking.{StaysReadable}
 use Rattle.store.specs.Shut.{is_shut}
 use Rattle.store.specs.declared.archive.Archive.{Archive}
 use Rattle.store.proofs.Histories.{performs_then}
 use Rattle.archive_input.specs.Answers.{Served}
-use Rattle.archive_input.specs.Applying.{AppliedOf, IsServedIn, OnlyLooks, PerformsAll, RefusesAll, Steps, calls_of}
+use Rattle.archive_input.specs.Applying.{IsServedIn, OnlyLooks, PerformsAll, RefusesAll, Steps}
 use Rattle.archive_input.proofs.Stepped.{performs_looked}
 use Rattle.expected_rows.specs.Expecting.{DoesExpected, IsDoneExpected, Left, OnlyLooked, WouldBe}
 
@@ -120,29 +116,3 @@ module _ {S : Type 0} (g : Ghosts S) where
     does_after left s done steps does = λ clean was.
         before_looks (λ _. IsDoneExpected left s) (clean_steps done steps was clean) was
         (does clean (looked.free was))
-
-  -- looks after rows that were served
-  pub applied_looked : {AreOf : Option (List ℕ) → List Row → Type 0} (input before after : Option (List ℕ))
-      (old mid new : Archive S g) → AppliedOf AreOf g input before after old mid → OnlyLooked g mid new
-      → AppliedOf AreOf g input before after old new
-  applied_looked input before after old mid new part looked = record {
-    rows = part.rows;
-    served = part.served;
-    all = part.all;
-    each = part.each;
-    numbers = λ clean was. part.numbers (looked.performed clean (part.kept was)).clean was;
-    certain = part.certain;
-    kept = λ was. looked.free (part.kept was);
-    performed = λ clean was.
-        let p = looked.performed clean (part.kept was) in
-        subst (λ (calls : List Done). Performs (state g old.conn) calls (state g new.conn))
-        (append-nil (calls_of part.served))
-        (performs_then (state g old.conn) (state g mid.conn) (state g new.conn) (calls_of part.served) []
-        (part.performed p.clean was) part.certain p);
-    refused = λ shut.
-        let all = part.refused shut in (
-          all.0,
-          looked.shut (subst (λ (a : Archive S g). is_shut a ≡ true) (sym all.1) shut) ∙ all.1,
-        );
-    written = part.written;
-  }

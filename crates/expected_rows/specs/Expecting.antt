@@ -25,6 +25,7 @@ use Rattle.sqlite.specs.State.{HasCleanDisk}
 use Rattle.sqlite_trees.specs.declared.store.Store.{Ghosts}
 use Rattle.archive_core.specs.Machine.{outcome}
 use Rattle.archive_state.specs.Content.{Content}
+use Rattle.commands.specs.Rows.{is_want}
 use Rattle.record_text.specs.declared.refusal.RefusalKind.{RefusalKind}
 use Rattle.request_csv.specs.Input.{AreFirstRows, Row}
 use Rattle.expected_answers.specs.Expected.{is_next, rest}
@@ -73,6 +74,12 @@ WouldBe c (Ok (r, Ok answer)) = (after : Content) × (outcome c r ≡ Ok (after,
 WouldBe c (Ok (r, Err e)) = outcome c r ≡ Err e
 WouldBe c (Err bad) = Unit {0}
 
+-- it was not found out what becomes of a row: memory was refused
+abbrev pub is_wanting : Served → Bool
+is_wanting (Ok (r, Ok answer)) = false
+is_wanting (Ok (r, Err e)) = is_want e.kind
+is_wanting (Err bad) = is_want bad.kind
+
 -- an archive was only looked at
 pub record OnlyLooked {S : Type 0} (g : Ghosts S) (old new : Archive S g) : Type 0 where
   pub free : is_shut old ≡ false → is_shut new ≡ false
@@ -87,6 +94,7 @@ pub record IsUnexpected {S : Type 0} (g : Ghosts S) (left : Left) (row : Row) (o
   pub would_be : HasCleanDisk (state g new.conn) → is_shut old ≡ false
       → OnArchive (state g old.conn) (λ society c rows. WouldBe c served)
   pub otherwise : is_expected left served ≡ false
+  pub known : is_wanting served ≡ false
   pub looked : OnlyLooked g old new
 
 -- rows were answered as is expected, and none was refused where the call stops at the first that is

@@ -9,7 +9,6 @@ use Rattle.std.specs.Prelude.{
   true,
   not,
   List,
-  None,
   Option,
   Some,
   Result,
@@ -24,7 +23,6 @@ use Rattle.sqlite.specs.State.{HasCleanDisk}
 use Rattle.sqlite_trees.specs.declared.store.Store.{Ghosts}
 use Rattle.archive_core.specs.Applied.{Decides}
 use Rattle.archive_core.specs.Machine.{outcome}
-use Rattle.archive_core.specs.Steps.{refused_at}
 use Rattle.archive_state.specs.Changes.{Changes}
 use Rattle.archive_state.specs.Content.{Content}
 use Rattle.archive_state.specs.Looks.{is_failure}
@@ -41,7 +39,7 @@ use Rattle.store.specs.Shut.{is_shut}
 use Rattle.store.specs.Viewing.{OnReadable}
 use Rattle.store.specs.declared.archive.Archive.{Archive}
 use Rattle.archive_input.specs.Answers.{Served, answer_text}
-use Rattle.archive_input.specs.Applying.{IsServed, IsServedIn, OnlyLooks, Steps, WritesPart}
+use Rattle.archive_input.specs.Applying.{IsServed, IsServedIn, OnlyLooks, Steps, WritesPart, failing}
 use Rattle.archive_input.specs.Referring.{AnswersRow, EndsServing}
 use Rattle.archive_input.specs.Requests.{Asked}
 use Rattle.archive_input.specs.RowByRow.{Moment, Serves, refusal_in, refusal_of}
@@ -53,6 +51,7 @@ use Rattle.expected_rows.specs.Expecting.{
   OnlyLooked,
   WouldBe,
   is_expected,
+  is_wanting,
   token_in,
   without_next,
 }
@@ -69,14 +68,11 @@ abbrev pub is_read : Asked → Bool
 is_read (Ok r) = true
 is_read (Err bad) = not (is_want bad.kind)
 
--- nobody knows whether it was done
-abbrev pub failing : Outcome
-failing = Err (refused_at None Storage)
-
 -- what a row asks for of an archive, which was looked at only for its references
 pub record AsksOf {S : Type 0} (g : Ghosts S) (row : Row) (asked : Asked) (old new : Archive S g) : Type 0 where
   pub is : (o : Outcome) → IsServed row (as_served asked o)
   pub within : (o : Outcome) → IsServedIn g row (as_served asked o) old new
+  pub known : is_read asked ≡ true
   pub looked : (new ≡ old) ⊎ OnlyLooks g row old new
 
 -- the call ended before anything of the row was done or written: memory was refused, or the looks lost the archive
@@ -89,6 +85,7 @@ EndsAsking g row old new kind = ((kind ≡ OutOfMemory) × OnlyLooked g old new)
 pub record Foresees {S : Type 0} (g : Ghosts S) (r : Request) (o : Outcome) (old new : Archive S g) : Type 0 where
   pub would_be : HasCleanDisk (state g new.conn) → is_shut old ≡ false
       → OnArchive (state g old.conn) (λ society c rows. WouldBe c (Ok (r, o)))
+  pub known : is_wanting (Ok (r, o)) ≡ false
   pub looked : OnlyLooked g old new
 
 -- what looks at an archive have decided of a request: that is right where no look has failed

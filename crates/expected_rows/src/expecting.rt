@@ -1,6 +1,6 @@
 //! All rows of an input, as long as each is answered as is expected.
 
-ghost use Rattle.std.specs.Prelude.{◌≡◌, ◌⊎◌, true, Err, IfErr, IfOk, IsTrue};
+ghost use Rattle.std.specs.Prelude.{◌≡◌, true, Err, IfErr, IfOk};
 ghost use Rattle.csv.specs.Reading.{
   Ready,
   default_config,
@@ -19,7 +19,7 @@ ghost use Rattle.request_csv.specs.Input.{row_bytes};
 ghost use Rattle.expected_rows.specs.Expecting.{AppliedAsExpected, EndedAsExpected};
 
 use crate::meeting::{Met, meet_row};
-use archive_input::{row_place, stop_at};
+use archive_input::{blamed, row_place, stop_at};
 use csv::{ByteRecord, Reader, ReaderBuilder};
 use devices::{Device, has_risen};
 use expected_answers::Expected;
@@ -83,17 +83,6 @@ pub fn apply_as_expected<S: Alter, R: Read + Device, W: Write + Device, F: Write
     ) {
         Ok(ending) => Ok(ending),
         Err(kind) => Err(blamed(kind, has_risen(reads, input.failures()))),
-    }
-}
-
-/// Why a call ended early: the reader is blamed only where its count of failures has risen.
-fn blamed(kind: RefusalKind, risen: bool) -> RefusalKind
-    ensures { ((result ≡ kind) × (kind ≡ refusal.ReadFailed → IsTrue risen))
-        ⊎ ((kind ≡ refusal.ReadFailed) × (result ≡ refusal.OutOfMemory)) }
-{
-    match kind {
-        RefusalKind::ReadFailed if !risen => RefusalKind::OutOfMemory,
-        _ => kind,
     }
 }
 

@@ -1,6 +1,7 @@
 //! What a row asks for, and what it would be answered: an archive is only looked at.
 
 ghost use Rattle.std.specs.Prelude.{◌≡◌, ◌⊎◌, false, true, Err, IfErr, IfOk, Ok, OnErr};
+ghost use Rattle.commands.specs.Rows.{is_want};
 ghost use Rattle.csv.specs.Records.{fields_of};
 ghost use Rattle.record_text.specs.declared.refusal.RefusalKind.TheVariants as refusal;
 ghost use Rattle.row_references.specs.References.{has_references};
@@ -110,9 +111,9 @@ fn ask_looked<S: Alter>(
     match look_up(alloc, archive, row) {
         Ok(Some(own)) => {
             drop(request);
-            let asked = read_request(alloc, &own);
+            let read = read_request(alloc, &own);
             drop(own);
-            Ok(asked)
+            unless_wanted(read)
         }
         Ok(None) => Ok(Err(refused_as(request, RefusalKind::NoSuch))),
         Err(kind) => refused_unread(request, kind),
@@ -126,7 +127,7 @@ fn refused_unread(
     kind: RefusalKind,
 ) -> Result<Result<Request, BadRequest>, RefusalKind>
     ensures refused { IfOk result (λ asked. (asked ≡ Err (refused_under request.token kind))
-        × (is_storage kind ≡ false)) }
+        × (is_storage kind ≡ false) × (is_want kind ≡ false)) }
     ensures ended { IfErr result (λ e. (e ≡ kind) × ((kind ≡ refusal.Storage) ⊎ (kind ≡ refusal.OutOfMemory))) }
 {
     match kind {

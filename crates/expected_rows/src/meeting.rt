@@ -25,7 +25,7 @@ ghost use Rattle.expected_rows.specs.declared.meeting.Met.TheVariants as met;
 use crate::foreseeing::{ask_row, foresee};
 use archive_core::Request;
 use archive_input::{
-    BadRequest, answer_outcome, answer_refused, bad_text, outcome_text, tell_fault,
+    BadRequest, answer_outcome, answer_refused, bad_text, has_failed, outcome_text, tell_fault,
 };
 use csv::ByteRecord;
 use devices::Device;
@@ -168,16 +168,6 @@ fn finish<W: Write + Device>(
     match answer_outcome(alloc, &request, outcome, output, before) {
         Ok(refused) => Ok(Met::Served(refused)),
         Err(kind) => Err(kind),
-    }
-}
-
-/// Whether the database failed at a request.
-fn has_failed(outcome: Result<Answer, Refusal>) -> bool
-    ensures { result ≡ has_failed outcome }
-{
-    match outcome {
-        Ok(_) => false,
-        Err(refusal) => matches!(refusal.kind, RefusalKind::Storage),
     }
 }
 

@@ -1,8 +1,7 @@
 -- What a trial of an import has come to, as its report.
-use Rattle.std.proofs.Common.{◌≡◌, ℕ, List, Bool, true, false, Ok, Err, ap, inl, inr, refl, subst, sym, ◌∙◌}
-use Rattle.std.specs.Prelude.{◌≢◌, ◌⊎◌, Option, None, Some, Result, is_some, option_map}
-use Rattle.std.specs.FinMap as map
-use Rattle.archive_state.specs.Content.{Content, nothing}
+use Rattle.std.proofs.Common.{◌≡◌, ℕ, List, true, false, Ok, Err, ap, inl, inr, refl, subst, sym, ◌∙◌}
+use Rattle.std.specs.Prelude.{◌≢◌, ◌⊎◌, Option, None, Some, Result, option_map}
+use Rattle.archive_state.specs.Content.{Content}
 use Rattle.archive_state.specs.Looks.{Looked, is_stop}
 use Rattle.gedcom_tree.specs.Forest.{Item}
 use Rattle.import_definitions.specs.Made.{made}
@@ -12,7 +11,7 @@ use Rattle.imports.specs.RootNumbers.{root_numbers}
 use Rattle.record_text.specs.declared.refusal.Refusal.{Refusal}
 use Rattle.record_text.specs.declared.refusal.RefusalKind.{RefusalKind}
 use Rattle.record_text.specs.declared.refusal.RefusalKind.TheVariants.{OutOfMemory}
-use Rattle.import_reports.specs.Reports.{IsForeseen, IsReport, IsTrial, IsUntaken, is_answered, text_with}
+use Rattle.import_reports.specs.Reports.{IsForeseen, IsReport, IsTrial, is_answered, text_with}
 
 module _ {A : Type 0} (bytes : A → List ℕ) (f : List Item) where
   pub unreported_of : (numbers : List ℕ) (why : Refusal) (r : Result (Option A) RefusalKind)

@@ -1,6 +1,6 @@
 -- How the writing of what was foreseen ends.
-use Rattle.std.proofs.Common.{◌≡◌, ℕ, List, true, false, Ok, Err, inl, inr, subst}
-use Rattle.std.specs.Prelude.{Option, None, Some, Result}
+use Rattle.std.proofs.Common.{ℕ, List, true, false, Ok, Err, inr, subst}
+use Rattle.std.specs.Prelude.{Option, None, Some}
 use Rattle.std.specs.Io.KnownBytes.{Appends}
 use Rattle.archive_state.specs.Content.{Content}
 use Rattle.gedcom_tree.specs.Forest.{Item}

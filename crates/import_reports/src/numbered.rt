@@ -1,6 +1,6 @@
 //! The records of a file, each with its number.
 
-ghost use Rattle.std.specs.Prelude.{◌≡◌, ◌++◌, IfOk, OnOk, option_map, string_bytes};
+ghost use Rattle.std.specs.Prelude.{◌≡◌, ◌++◌, IfOk, OnOk, string_bytes};
 ghost use Rattle.import_definitions.specs.Nodes.{tree_of};
 ghost use Rattle.stored_lines.specs.Tree.{label};
 ghost use Rattle.import_reports.specs.Records as records;

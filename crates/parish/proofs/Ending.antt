@@ -40,7 +40,7 @@ use Rattle.parish.specs.Rows.{apply_task}
 use Rattle.parish.specs.Tables.{entering_task, table_task}
 use Rattle.parish.specs.declared.visits.Visits.{Visits}
 use Rattle.reading_room.specs.Listening.{listening_line}
-use Rattle.record_text.specs.declared.refusal.RefusalKind.TheVariants.{Storage, WriteFailed}
+use Rattle.record_text.specs.declared.refusal.RefusalKind.TheVariants.{WriteFailed}
 use Rattle.tasks.proofs.Quiet.{at_most_1, done_quiet, ends_at_most_1, ends_quietly, says}
 use Rattle.tasks.specs.Moments.{Streams, at}
 use Rattle.tasks.specs.Status.{Finishes, Outcome, Plain, as_text, placeless_text}

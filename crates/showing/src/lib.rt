@@ -1,7 +1,7 @@
 //! A record shown whole to whoever keeps the archive: its fields, its carried lines as GEDCOM, what it names and what
 //! names it. Nothing is masked.
 //!
-//! It uses `finding` for the line of a record, `node_writing` for carried lines, and `archive_state` to look at
+//! It uses `searching` for the line of a record, `node_writing` for carried lines, and `archive_state` to look at
 //! records, wherever they are.
 //!
 //! Callers may rely on: the text is that of the definition over the whole archive; no control character but line ends

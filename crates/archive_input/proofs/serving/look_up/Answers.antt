@@ -1,16 +1,16 @@
-use Rattle.std.proofs.Common.{◌≡◌, ◌∙◌, Bool, subst, sym}
+use Rattle.std.proofs.Common.{◌≡◌, ◌∙◌, ℕ, Bool, subst, sym}
 use Rattle.std.specs.Prelude.{Option, option_map}
 use Rattle.sqlite.specs.Held.{Held, state}
 use Rattle.sqlite.specs.State.{HasCleanDisk}
 use Rattle.store_tables.proofs.Queries.{only_committed}
 use Rattle.archive_state.specs.Content.{Content}
-use Rattle.archive_state.specs.Looks.{Looked}
+use Rattle.archive_state.specs.Looks.{CountsFailures, Looked}
 use Rattle.csv.specs.Records.{Row as Record, fields_of}
 use Rattle.row_references.specs.References.{IsNumbered, kept_number, numbered}
 use Rattle.store.specs.Looking.{StaysReadable}
 use Rattle.store.specs.Viewing.{OnReadable}
 use Rattle.archive_input.specs.Referring.{Numbered}
-use Rattle.archive_input.proofs.Stepped.{form_then, found_then, viewed_looks}
+use Rattle.archive_input.proofs.Stepped.{form_then, found_then, viewed_looks, wanting}
 use Rattle.archive_input.proofs.serving.look_up.Goals as goal
 
 pub returns-clause-looked : goal.returns-clause-looked
@@ -25,7 +25,12 @@ returns-clause-looked g c =
     let start = state g.S.Store first.conn in
     let end = state g.S.Store last.conn in
     let P : Content → Option Record → Type 0 = λ k own. option_map fields_of own ≡ numbered (kept_number k) row in
-    let seen = found_then start end last.is_lost found kept P c.unless_lost.ensures.found
+    let same = c.is_lost.ensures ∙ c.put_back.ensures.lost in
+    let counts = subst (λ (n : ℕ). CountsFailures n last.failures found) c.set_aside-import.ensures.counts
+    c.numbered-found.ensures.counts in
+    let seen = found_then start end last.is_lost last.failures found kept P c.unless_lost.ensures.found
+    (λ k. wanting last.is_lost last.failures found kept (P k) counts (c.unless_lost.ensures.lost ∙ same)
+    (λ sure. c.unless_lost.ensures.kept (same ∙ sure)) (λ sure. c.unless_lost.ensures.wanted (same ∙ sure)))
     (viewed_looks start end first.is_lost last.is_lost first.failures last.failures (λ k. Looked found (P k))
     c.set_aside-import.ensures.counts
     (λ rows was t l. only_committed start rows t was (g.met.S.Store.settled first.conn.store t was.is_open l))

@@ -9,14 +9,22 @@ use Rattle.request_csv.specs.Input.{Row}
 use Rattle.row_references.specs.References.{IsNumbered, any_number, kept_number, numbered}
 use Rattle.store.proofs.Viewed.{seen_of}
 use Rattle.store.specs.Histories.{is_storage}
-use Rattle.archive_input.specs.Applying.{IsServedWith}
+use Rattle.archive_input.specs.Applying.{IsServedBy, failing}
 use Rattle.archive_input.specs.Answers.{Served}
 use Rattle.archive_input.specs.Requests.{refused_under}
-use Rattle.archive_input.proofs.Asked.{form_ok, served_missing, served_own, served_unread, with_any}
+use Rattle.archive_input.proofs.Asked.{
+  form_ok,
+  served_missing,
+  served_own,
+  served_unread,
+  served_wanting,
+  served_with,
+  unread_any,
+  with_any,
+}
 use Rattle.archive_input.proofs.Outcomes.{by_bool}
 use Rattle.archive_input.proofs.Stepped.{
   clean_of,
-  failing,
   free_of,
   shut_lost,
   steps_failing,
@@ -41,10 +49,14 @@ returns-in-Ok-Some-clause-served g c =
     let form = subst (IsNumbered row) is found.form in
     IfOk-weaker c.serve_numbered-served.result _ _ (λ refused h. (
       h.0,
-      (Some own, form, served_own row r c.requires.asks own h.0 c.requires.refers h.1),
+      (
+        Some own,
+        form,
+        served_with (Some own) row h.0 (served_own row r c.requires.asks own h.0 c.requires.refers h.1),
+      ),
       (λ clean _ society k rows settled keeps _.
-          subst (λ (o : Option Row). IsServedWith o row h.0)
-          (sym is ∙ (found.looked (clean_of g.S.Store mid new h.0 free h.2 clean)).1 rows k settled (seen_of keeps))
+          subst (λ (o : Option Row). IsServedBy o row h.0)
+          (sym is ∙ ((found.looked (clean_of g.S.Store mid new h.0 free h.2 clean)).1 rows k settled (seen_of keeps)).0)
           (served_own row r c.requires.asks own h.0 c.requires.refers h.1)),
       steps_looked g.S.Store row old mid c.requires.refers c.requires.takes looks new h.0 sure free h.2,
       h.3,
@@ -68,10 +80,14 @@ returns-in-Ok-Some-clause-ended g c =
     let form = subst (IsNumbered row) is found.form in
     IfErr-weaker c.serve_numbered-served.result _ _ (λ kind h. (
       h.0,
-      (Some own, form, served_own row r c.requires.asks own h.0 c.requires.refers h.1),
+      (
+        Some own,
+        form,
+        served_with (Some own) row h.0 (served_own row r c.requires.asks own h.0 c.requires.refers h.1),
+      ),
       (λ clean _ society k rows settled keeps _.
-          subst (λ (o : Option Row). IsServedWith o row h.0)
-          (sym is ∙ (found.looked (clean_of g.S.Store mid new h.0 free h.2 clean)).1 rows k settled (seen_of keeps))
+          subst (λ (o : Option Row). IsServedBy o row h.0)
+          (sym is ∙ ((found.looked (clean_of g.S.Store mid new h.0 free h.2 clean)).1 rows k settled (seen_of keeps)).0)
           (served_own row r c.requires.asks own h.0 c.requires.refers h.1)),
       steps_looked g.S.Store row old mid c.requires.refers c.requires.takes looks new h.0 sure free h.2,
       h.3,
@@ -92,10 +108,10 @@ returns-in-Ok-None-clause-served g c =
     let s : Served = Err (refused_under r.token NoSuch) in
     IfOk-weaker c.answer_under.result _ _ (λ refused h. (
       s,
-      (None, form, served_missing row r c.requires.asks),
+      (None, form, served_with None row s (served_missing row r c.requires.asks)),
       (λ clean _ society k rows settled keeps _.
-          subst (λ (o : Option Row). IsServedWith o row s)
-          (sym is ∙ (found.looked clean).1 rows k settled (seen_of keeps))
+          subst (λ (o : Option Row). IsServedBy o row s)
+          (sym is ∙ ((found.looked clean).1 rows k settled (seen_of keeps)).0)
           (served_missing row r c.requires.asks)),
       steps_refused g.S.Store row old mid c.requires.refers c.requires.takes looks (refused_under r.token NoSuch) sure
           free,
@@ -119,10 +135,10 @@ returns-in-Ok-None-clause-ended g c =
     let s : Served = Err (refused_under r.token NoSuch) in
     IfErr-weaker c.answer_under.result _ _ (λ kind h. (
       s,
-      (None, form, served_missing row r c.requires.asks),
+      (None, form, served_with None row s (served_missing row r c.requires.asks)),
       (λ clean _ society k rows settled keeps _.
-          subst (λ (o : Option Row). IsServedWith o row s)
-          (sym is ∙ (found.looked clean).1 rows k settled (seen_of keeps))
+          subst (λ (o : Option Row). IsServedBy o row s)
+          (sym is ∙ ((found.looked clean).1 rows k settled (seen_of keeps)).0)
           (served_missing row r c.requires.asks)),
       steps_refused g.S.Store row old mid c.requires.refers c.requires.takes looks (refused_under r.token NoSuch) sure
           free,
@@ -144,8 +160,10 @@ returns-in-Err-clause-served g c =
     let free = free_of g.S.Store old mid c.requires.takes sure found.aside in
     let is = λ (o : Option Row). served_unread row r c.requires.asks o kind c.requires.refers (found.stops h.0) in (
       s,
-      with_any row s (is (numbered any_number row)),
-      (λ clean _ society k rows settled keeps _. is (numbered (kept_number k) row)),
+      unread_any row s (is (numbered any_number row)),
+      (λ clean _ society k rows settled keeps _.
+          served_wanting row r c.requires.asks (numbered (kept_number k) row) kind c.requires.refers
+          (((found.looked clean).1 rows k settled (seen_of keeps)).1 h.0)),
       steps_refused g.S.Store row old mid c.requires.refers c.requires.takes looks (refused_under r.token kind) sure
           free,
       refl,
@@ -177,8 +195,10 @@ returns-in-Err-clause-ended g c =
     let free = free_of g.S.Store old mid c.requires.takes sure found.aside in
     let is = λ (o : Option Row). served_unread row r c.requires.asks o kind c.requires.refers (found.stops sound) in (
       s,
-      with_any row s (is (numbered any_number row)),
-      (λ clean _ society k rows settled keeps _. is (numbered (kept_number k) row)),
+      unread_any row s (is (numbered any_number row)),
+      (λ clean _ society k rows settled keeps _.
+          served_wanting row r c.requires.asks (numbered (kept_number k) row) kind c.requires.refers
+          (((found.looked clean).1 rows k settled (seen_of keeps)).1 sound)),
       steps_refused g.S.Store row old mid c.requires.refers c.requires.takes looks (refused_under r.token kind) sure
           free,
       w,

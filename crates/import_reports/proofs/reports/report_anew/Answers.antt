@@ -1,4 +1,4 @@
-use Rattle.std.proofs.Common.{◌∙◌, ap}
+use Rattle.std.proofs.Common.{◌∙◌}
 use Rattle.std.specs.Prelude.{string_bytes}
 use Rattle.import_reports.proofs.Foreseen.{trial_of, untaken_of}
 use Rattle.import_reports.proofs.reports.report_anew.Goals as goal

@@ -1,4 +1,4 @@
-use Rattle.std.proofs.Common.{inl, refl, ap, sym, ◌∙◌}
+use Rattle.std.proofs.Common.{inl, ap, sym, ◌∙◌}
 use Rattle.std.specs.Prelude.{is_some, string_bytes}
 use Rattle.import_reports.proofs.Foreseen.{foreseen_of}
 use Rattle.import_reports.proofs.reports.report_on.Goals as goal

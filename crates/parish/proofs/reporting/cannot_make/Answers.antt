@@ -1,6 +1,4 @@
-use Rattle.std.proofs.Common.{ℕ, List, inl, inr, subst}
-use Rattle.record_text.specs.declared.refusal.RefusalText.{RefusalText}
-use Rattle.tasks.specs.Status.{IsRefused}
+use Rattle.std.proofs.Common.{inl, inr}
 use Rattle.parish.proofs.reporting.cannot_make.Goals as goal
 
 pub returns : goal.returns
