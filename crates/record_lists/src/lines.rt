@@ -13,20 +13,21 @@ ghost use Rattle.record_lists.specs.Texts as texts;
 use crate::listed::Chosen;
 use archive_state::View;
 use doubts::review_archive;
+use kind_views::KindView;
 use record_text::RefusalKind;
 use searching::{Found, Line, Listing, page, page_and_others};
 use showing::slip_page;
 use std::alloc::{AllocError, Global};
 
 /// The lines of what is listed, by number.
-pub(crate) fn lines_text<V: View>(
+pub(crate) fn lines_text<V: KindView>(
     alloc: Global,
     view: &mut V,
     chosen: &Chosen,
 ) -> Result<String, RefusalKind>
     ensures shows { On V.View view.old view.new (λ c. Looked result
         (λ text. string_bytes text ≡ texts.lines_text chosen.now c)) }
-    ensures counts { CountsFailures (V.failed view.old) (V.failed view.new) result }
+    ensures counts { CountsFailures (V.View.failed view.old) (V.View.failed view.new) result }
 {
     match chosen {
         Chosen::Records { listing } => records_text(alloc, view, listing),
@@ -61,14 +62,14 @@ fn doubts_text<V: View>(alloc: Global, view: &mut V) -> Result<String, RefusalKi
 }
 
 /// The lines of records, and how many more there are where that is asked for.
-fn records_text<V: View>(
+fn records_text<V: KindView>(
     alloc: Global,
     view: &mut V,
     listing: &Listing,
 ) -> Result<String, RefusalKind>
     ensures shows { On V.View view.old view.new (λ c. Looked result
         (λ text. string_bytes text ≡ texts.records_lines listing.now c)) }
-    ensures counts { CountsFailures (V.failed view.old) (V.failed view.new) result }
+    ensures counts { CountsFailures (V.View.failed view.old) (V.View.failed view.new) result }
 {
     if listing.counts_others {
         counted_text(alloc, view, listing)
@@ -78,24 +79,28 @@ fn records_text<V: View>(
 }
 
 /// The lines, whatever is left out.
-fn page_text<V: View>(alloc: Global, view: &mut V, listing: &Listing) -> Result<String, RefusalKind>
+fn page_text<V: KindView>(
+    alloc: Global,
+    view: &mut V,
+    listing: &Listing,
+) -> Result<String, RefusalKind>
     ensures shows { On V.View view.old view.new (λ c. Looked result (λ text. string_bytes text ≡ flat_map texts.ended
         (lines.page listing.now.wanted listing.now.after listing.now.limit (entries c.records)))) }
-    ensures counts { CountsFailures (V.failed view.old) (V.failed view.new) result }
+    ensures counts { CountsFailures (V.View.failed view.old) (V.View.failed view.new) result }
 {
     let lines = page(alloc, view, &listing.wanted, listing.after, listing.limit)?;
     Ok(text_of(alloc, &lines)?)
 }
 
 /// The lines, and how many records are left out.
-fn counted_text<V: View>(
+fn counted_text<V: KindView>(
     alloc: Global,
     view: &mut V,
     listing: &Listing,
 ) -> Result<String, RefusalKind>
     ensures shows { On V.View view.old view.new (λ c. Looked result (λ text. string_bytes text ≡ texts.counted_text
         (lines.page_and_others listing.now.wanted listing.now.after listing.now.limit (entries c.records)))) }
-    ensures counts { CountsFailures (V.failed view.old) (V.failed view.new) result }
+    ensures counts { CountsFailures (V.View.failed view.old) (V.View.failed view.new) result }
 {
     let found = page_and_others(alloc, view, &listing.wanted, listing.after, listing.limit)?;
     Ok(found_text(alloc, &found)?)

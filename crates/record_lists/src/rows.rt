@@ -15,6 +15,7 @@ use crate::listed::{Chosen, Listed};
 use archive_state::View;
 use doubts::review_archive;
 use entry_tables::{Numbered, table};
+use kind_views::KindView;
 use list_rows::{push_numbered, push_pair};
 use record_kinds::{Entry, Record};
 use record_text::RefusalKind;
@@ -23,14 +24,14 @@ use showing::slip_page;
 use std::alloc::{AllocError, Global};
 
 /// What is listed, as lines or as rows of CSV. Nothing is changed.
-pub fn list_text<V: View>(
+pub fn list_text<V: KindView>(
     alloc: Global,
     view: &mut V,
     listed: &Listed,
 ) -> Result<Vec<u8>, RefusalKind>
     ensures shows { On V.View view.old view.new (λ c. Looked result
         (λ text. text.items ≡ texts.list_text listed.now c)) }
-    ensures counts { CountsFailures (V.failed view.old) (V.failed view.new) result }
+    ensures counts { CountsFailures (V.View.failed view.old) (V.View.failed view.new) result }
 {
     if listed.is_csv {
         rows_text(alloc, view, &listed.of)
@@ -40,24 +41,28 @@ pub fn list_text<V: View>(
 }
 
 /// The lines of what is listed.
-fn lines_bytes<V: View>(
+fn lines_bytes<V: KindView>(
     alloc: Global,
     view: &mut V,
     chosen: &Chosen,
 ) -> Result<Vec<u8>, RefusalKind>
     ensures shows { On V.View view.old view.new (λ c. Looked result
         (λ text. text.items ≡ texts.lines_text chosen.now c)) }
-    ensures counts { CountsFailures (V.failed view.old) (V.failed view.new) result }
+    ensures counts { CountsFailures (V.View.failed view.old) (V.View.failed view.new) result }
 {
     let text = lines_text(alloc, view, chosen)?;
     Ok(text.into_bytes())
 }
 
 /// The rows of what is listed.
-fn rows_text<V: View>(alloc: Global, view: &mut V, chosen: &Chosen) -> Result<Vec<u8>, RefusalKind>
+fn rows_text<V: KindView>(
+    alloc: Global,
+    view: &mut V,
+    chosen: &Chosen,
+) -> Result<Vec<u8>, RefusalKind>
     ensures shows { On V.View view.old view.new (λ c. Looked result
         (λ text. text.items ≡ texts.rows_text chosen.now c)) }
-    ensures counts { CountsFailures (V.failed view.old) (V.failed view.new) result }
+    ensures counts { CountsFailures (V.View.failed view.old) (V.View.failed view.new) result }
 {
     match chosen {
         Chosen::Records { listing } => records_rows(alloc, view, listing),
@@ -92,14 +97,14 @@ fn doubt_rows<V: View>(alloc: Global, view: &mut V) -> Result<Vec<u8>, RefusalKi
 }
 
 /// The rows of records: those of a source are a table.
-fn records_rows<V: View>(
+fn records_rows<V: KindView>(
     alloc: Global,
     view: &mut V,
     listing: &Listing,
 ) -> Result<Vec<u8>, RefusalKind>
     ensures shows { On V.View view.old view.new (λ c. Looked result
         (λ text. text.items ≡ texts.records_rows listing.now c)) }
-    ensures counts { CountsFailures (V.failed view.old) (V.failed view.new) result }
+    ensures counts { CountsFailures (V.View.failed view.old) (V.View.failed view.new) result }
 {
     if listing.wanted.source.is_some() {
         entry_table(alloc, view, listing)
@@ -109,14 +114,14 @@ fn records_rows<V: View>(
 }
 
 /// A row for each record, and how many are left out where that is asked for.
-fn described_rows<V: View>(
+fn described_rows<V: KindView>(
     alloc: Global,
     view: &mut V,
     listing: &Listing,
 ) -> Result<Vec<u8>, RefusalKind>
     ensures shows { On V.View view.old view.new (λ c. Looked result
         (λ text. text.items ≡ texts.described_rows listing.now c)) }
-    ensures counts { CountsFailures (V.failed view.old) (V.failed view.new) result }
+    ensures counts { CountsFailures (V.View.failed view.old) (V.View.failed view.new) result }
 {
     if listing.counts_others {
         counted_rows(alloc, view, listing)
@@ -126,7 +131,7 @@ fn described_rows<V: View>(
 }
 
 /// The rows, whatever is left out.
-fn page_rows<V: View>(
+fn page_rows<V: KindView>(
     alloc: Global,
     view: &mut V,
     listing: &Listing,
@@ -134,21 +139,21 @@ fn page_rows<V: View>(
     ensures shows { On V.View view.old view.new (λ c. Looked result (λ text. text.items ≡ texts.line_rows
         (codes "description")
         (lines.page listing.now.wanted listing.now.after listing.now.limit (map.entries c.records)))) }
-    ensures counts { CountsFailures (V.failed view.old) (V.failed view.new) result }
+    ensures counts { CountsFailures (V.View.failed view.old) (V.View.failed view.new) result }
 {
     let lines = page(alloc, view, &listing.wanted, listing.after, listing.limit)?;
     Ok(line_rows(alloc, b"description", &lines)?)
 }
 
 /// The rows, and how many records are left out.
-fn counted_rows<V: View>(
+fn counted_rows<V: KindView>(
     alloc: Global,
     view: &mut V,
     listing: &Listing,
 ) -> Result<Vec<u8>, RefusalKind>
     ensures shows { On V.View view.old view.new (λ c. Looked result (λ text. text.items ≡ texts.counted_rows
         (lines.page_and_others listing.now.wanted listing.now.after listing.now.limit (map.entries c.records)))) }
-    ensures counts { CountsFailures (V.failed view.old) (V.failed view.new) result }
+    ensures counts { CountsFailures (V.View.failed view.old) (V.View.failed view.new) result }
 {
     let found = page_and_others(alloc, view, &listing.wanted, listing.after, listing.limit)?;
     Ok(found_rows(alloc, &found)?)
@@ -201,28 +206,28 @@ fn push_line(alloc: Global, out: &mut Vec<u8>, line: &Line) -> Result<(), AllocE
 }
 
 /// The register entries of a source, with the columns of a page.
-fn entry_table<V: View>(
+fn entry_table<V: KindView>(
     alloc: Global,
     view: &mut V,
     listing: &Listing,
 ) -> Result<Vec<u8>, RefusalKind>
     ensures shows { On V.View view.old view.new (λ c. Looked result
         (λ text. text.items ≡ texts.entry_table listing.now c)) }
-    ensures counts { CountsFailures (V.failed view.old) (V.failed view.new) result }
+    ensures counts { CountsFailures (V.View.failed view.old) (V.View.failed view.new) result }
 {
     let entries = listed_entries(alloc, view, listing)?;
     Ok(table(alloc, &entries)?)
 }
 
 /// The register entries among what is listed, in its order.
-fn listed_entries<V: View>(
+fn listed_entries<V: KindView>(
     alloc: Global,
     view: &mut V,
     listing: &Listing,
 ) -> Result<Vec<Numbered>, RefusalKind>
     ensures shows { On V.View view.old view.new (λ c. Looked result
         (λ found. found.items ≡ texts.listed_entries listing.now c)) }
-    ensures counts { CountsFailures (V.failed view.old) (V.failed view.new) result }
+    ensures counts { CountsFailures (V.View.failed view.old) (V.View.failed view.new) result }
 {
     let lines = page(alloc, view, &listing.wanted, listing.after, listing.limit)?;
     let found = entries_of(alloc, view, &lines)?;

@@ -1,3 +1,4 @@
+pub mod Choosing
 pub mod Folding
 pub mod Scans
 pub mod Words

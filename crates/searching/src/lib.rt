@@ -2,8 +2,8 @@
 //!
 //! - `folding`, `laws`, `search`: the words of a text as a search compares them: without regard to case, to marks and
 //!   to how letters are composed.
-//! - `counting`, `lines`, `printing`, `walking`, `wanted`: which records are listed and found, and the line of each:
-//!   for whoever keeps the archive, so nothing is masked.
+//! - `choosing`, `counting`, `lines`, `printing`, `walking`, `wanted`: which records are listed and found, and the line
+//!   of each: for whoever keeps the archive, so nothing is masked.
 //!
 //! Callers may rely on:
 //! - what a text is folded to depends only on its NFKD, so a name is found composed or not; the words of a search
@@ -12,6 +12,7 @@
 //!   has a control character; nothing is changed.
 #![tactic(auto)]
 
+mod choosing;
 mod counting;
 mod folding;
 pub mod laws;

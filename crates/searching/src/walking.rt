@@ -7,16 +7,18 @@ ghost use Rattle.archive_state.specs.Views.{On};
 ghost use Rattle.searching.specs.Lines as lines;
 ghost use Rattle.searching.specs.Walking as walking;
 
+use crate::choosing::numbers_for;
 use crate::lines::{Line, line_of};
 use crate::wanted::{Wanted, is_wanted};
 use archive_state::View;
+use kind_views::KindView;
 use record_kinds::Record;
 use record_text::RefusalKind;
 use std::alloc::{AllocError, Global};
 
 /// The lines of the first so many records after a number that are wanted, by number. Where there are as many as were
 /// asked for, there may be more after the last of them. A record is read at a time. Nothing is changed.
-pub fn page<V: View>(
+pub fn page<V: KindView>(
     alloc: Global,
     view: &mut V,
     wanted: &Wanted,
@@ -25,9 +27,9 @@ pub fn page<V: View>(
 ) -> Result<Vec<Line>, RefusalKind>
     ensures shows { On V.View view.old view.new (λ c. Looked result
         (λ found. found.items ≡ lines.page wanted.now after limit (map.entries c.records))) }
-    ensures counts { CountsFailures (V.failed view.old) (V.failed view.new) result }
+    ensures counts { CountsFailures (V.View.failed view.old) (V.View.failed view.new) result }
 {
-    let numbers = view.record_numbers(alloc)?;
+    let numbers = numbers_for(alloc, view, wanted)?;
     walked(alloc, view, wanted, after, limit, &numbers)
 }
 

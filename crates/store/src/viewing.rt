@@ -13,13 +13,14 @@ use crate::archive::Archive;
 use crate::failing::{is_failure, is_storage};
 use crate::reading::refusal_after;
 use archive_state::{Slip, View};
+use kind_views::{KindView, Kinds};
 use receipts::{Receipt, Token};
 use record_fields::{EntryKind, Item};
 use record_kinds::Record;
 use record_text::{RefusalKind, Text};
 use sqlite::Alter;
 use std::alloc::Global;
-use store_rows::looking;
+use store_rows::{looking, numbers_of};
 
 /// After a look that failed with 80 each is refused with 80. Any other refusal leaves the archive as it was.
 impl<S: Alter> View for Archive<S> {
@@ -121,6 +122,18 @@ impl<S: Alter> View for Archive<S> {
         match looking::entry_at(alloc, &mut self.conn, source, kind, page, item) {
             Ok(found) => Ok(found),
             Err(refusal) => Err(fail(self, refusal)),
+        }
+    }
+}
+
+impl<S: Alter> KindView for Archive<S> {
+    fn numbers_of(&mut self, alloc: Global, kinds: Kinds) -> Result<Vec<u32>, RefusalKind> {
+        if self.is_lost {
+            return Err(fail(self, RefusalKind::Storage));
+        }
+        match numbers_of(alloc, &mut self.conn, kinds) {
+            Ok(found) => Ok(found),
+            Err(kind) => Err(fail(self, kind)),
         }
     }
 }

@@ -22,4 +22,5 @@ pub mod StateMeant
 pub mod StateRecords
 pub mod StateSlips
 pub mod Staying
+pub mod TaggedNumbers
 pub mod Written

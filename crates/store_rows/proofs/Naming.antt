@@ -20,14 +20,14 @@ use Rattle.std.proofs.Common.{
 }
 use Rattle.std.specs.Prelude.{◌==◌, ◌&&◌, ◌||◌, Some, None, T}
 use Rattle.std.specs.List.{list_any}
-use Rattle.std.specs.FinMap.{entries, find, is_sorted}
+use Rattle.std.specs.FinMap.{find, is_sorted}
 use Rattle.std.specs.FinMap.Entries.{below_all}
 use Rattle.std.specs.Ordering.{nat_cmp}
 use Rattle.std.specs.Cmp.{unsigned_tied}
 use Rattle.std.proofs.lemmas.Bool.Decides.{nat_tests}
 use Rattle.record_kinds.specs.declared.record.Record.{Record}
 use Rattle.archive_state.specs.Links.{is_among, links}
-use Rattle.archive_state.specs.Referrers.{referrers, naming}
+use Rattle.archive_state.specs.Referrers.{naming}
 use Rattle.store_rows.specs.Links.{names_at}
 use Rattle.store_rows.proofs.Own.{either_way}
 use Rattle.archive_state.proofs.Rising.{not_found}

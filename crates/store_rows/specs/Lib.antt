@@ -8,4 +8,5 @@ pub mod Shallow
 pub mod Sides
 pub mod Sought
 pub mod Spans
+pub mod Tagged
 pub mod Writing

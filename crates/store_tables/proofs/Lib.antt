@@ -9,17 +9,17 @@ mod ClosedQueries
 pub mod Coded
 mod Created
 mod Failing
-mod Finding
+pub mod Finding
 mod KeyedQueries
 mod KeyedTexts
 mod LaterQueries
-mod LaterStatements
+pub mod LaterStatements
 mod LaterTexts
-mod LaterTyped
-mod LineStatements
+pub mod LaterTyped
+pub mod LineStatements
 mod LinkQueries
-mod LinkStatements
-mod LinkTexts
+pub mod LinkStatements
+pub mod LinkTexts
 pub mod Loops
 mod Owning
 pub mod Packing
@@ -42,15 +42,16 @@ mod SideStatements
 mod SideTexts
 mod SideTyped
 mod SoughtQueries
-mod SoughtStatements
-mod SoughtTexts
+pub mod SoughtStatements
+pub mod SoughtTexts
 mod SpanQueries
-mod SpanStatements
-mod SpanTexts
+pub mod SpanStatements
+pub mod SpanTexts
 mod SpanTyped
-mod Statements
-mod Texts
-mod Typed
+pub mod Statements
+mod Tagged
+pub mod Texts
+pub mod Typed
 mod Updates
 mod Widening
-mod Writing
+pub mod Writing

@@ -148,13 +148,13 @@ not_taken : (b : Bool) → (not b && true) ≡ true → b ≡ false
 not_taken true h = absurd cc
 not_taken false h = refl
 
-taken_by_place : (item : LinkRow) (ls : List LinkRow) → is_taken (map link_values ls) (link_values item)
+pub taken_by_place : (item : LinkRow) (ls : List LinkRow) → is_taken (map link_values ls) (link_values item)
     ≡ list_any (λ l. link_place l == link_place item) ls
 taken_by_place item [] = refl
 taken_by_place item (l ∷ ls) =
     ap₂ (λ a b. a || b) (same_at integer_at integer_order (link_place l) (link_place item)) (taken_by_place item ls)
 
-place_is_pair : (target n : ℕ) → IsU32 n → (ls : List LinkRow) → AllByRecursion IsTypedLink ls
+pub place_is_pair : (target n : ℕ) → IsU32 n → (ls : List LinkRow) → AllByRecursion IsTypedLink ls
     → list_any (λ l. link_place l == pair_place target n) ls ≡ list_any (is_pair target n) ls
 place_is_pair target n low [] h = refl
 place_is_pair target n low (l ∷ ls) h =

@@ -4,7 +4,9 @@ use Rattle.std.proofs.Common.{
   ℕ,
   ◌==◌,
   ◌&&◌,
+  ◌||◌,
   pos,
+  Bool,
   true,
   false,
   List,
@@ -12,14 +14,20 @@ use Rattle.std.proofs.Common.{
   ◌∷◌,
   map,
   filter,
+  bytes_eq,
+  None,
   Some,
   refl,
   ap,
+  ap₂,
   subst,
   ◌∙◌,
 }
-use Rattle.std.specs.List.{list_all}
-use Rattle.sqlite.specs.declared.types.Value.TheVariants.{Null, Int}
+use Rattle.std.specs.List.{AllByRecursion, list_all, list_any}
+use Rattle.sqlite.specs.declared.types.Value.TheVariants.{Null, Int, Text}
+use Rattle.sqlite.specs.Collation.TheVariants.{Binary}
+use Rattle.sqlite_sql.specs.declared.ops.BinaryOp.TheVariants.{Compare, Or}
+use Rattle.sqlite_sql.specs.declared.ops.CompareOp.TheVariants.{Eq}
 use Rattle.sqlite.specs.Order.{Row}
 use Rattle.sqlite.specs.Ops.{is_true, from_truth, binary}
 use Rattle.sqlite.specs.Term.{col, holds}
@@ -27,11 +35,12 @@ use Rattle.sqlite.specs.Program.{overlay}
 use Rattle.sqlite.specs.State.{State, Shown}
 use Rattle.sqlite.proofs.Callers.{reads_as}
 use Rattle.store_tables.specs.Calls.{Settled}
-use Rattle.store_tables.specs.Rows.{Rows, LineRow, PackRow, HoldsOwn, line_values, pack_values}
+use Rattle.store_tables.specs.Reading.{IsTypedPack, IsU32}
+use Rattle.store_tables.specs.Rows.{Rows, LineRow, PackRow, HoldsOwn, first_tag, line_values, pack_values}
 use Rattle.store_tables.specs.Schema.{archive_schema}
 use Rattle.store_tables.specs.Shown.{shown_line, shown_pack}
 use Rattle.store_tables.proofs.Coded.{same_int}
-use Rattle.store_tables.proofs.KeyedQueries.{found_in_order}
+use Rattle.store_tables.proofs.KeyedQueries.{found_in_order, same_text}
 use Rattle.store_tables.proofs.LaterStatements.{kept_of}
 use Rattle.store_tables.proofs.PackTexts.{
   pack_at,
@@ -46,6 +55,11 @@ use Rattle.store_tables.proofs.PackTexts.{
   select_packs_is,
   select_packs_plain,
   select_packs_unlisted,
+  tagged_by,
+  tagged_by_is,
+  tagged_by_plain,
+  tagged_by_unlisted,
+  with_tags,
 }
 use Rattle.store_tables.proofs.Queries.{all_in_order}
 use Rattle.store_tables.proofs.Statements.{truth_of}
@@ -76,6 +90,74 @@ reads_packs old new all rows second was h =
 passes : (n : ℕ) (x : PackRow) → list_all (holds ((Int (pos n) ∷ []) ∷ pack_values x ∷ [])) (with_key 0) ≡ (x.no == n)
 unfolding binary
 passes n x = ap (λ b. is_true (from_truth (Some b)) && true) (same_int x.no n) ∙ truth_of (x.no == n)
+
+-- ---- the numbers whose first line has a tag
+-- a number is read as that of a line
+abbrev pub number_line : PackRow → LineRow
+number_line p = record { id = 0; no = p.no; at = 0; line = (0, record { tag = []; text = None; target = None }) }
+
+pub numbers_typed : (ps : List PackRow) → AllByRecursion IsTypedPack ps
+    → AllByRecursion (λ (l : LineRow). IsU32 l.no) (map number_line ps)
+numbers_typed [] h = tt
+numbers_typed (p ∷ ps) h = (h.0.number, numbers_typed ps h.1)
+
+-- what the tests of tags say
+either : (a b : Bool) → binary Or (from_truth (Some a)) (from_truth (Some b)) ≡ from_truth (Some (a || b))
+unfolding binary
+either true true = refl
+either true false = refl
+either false true = refl
+either false false = refl
+
+has_tag : (t : List ℕ) (tag : List ℕ) → binary (Compare Eq Binary) (Text tag) (Text t)
+    ≡ from_truth (Some (bytes_eq tag t))
+unfolding binary
+has_tag t tag = ap (λ b. from_truth (Some b)) (same_text tag t)
+
+passed : (a b c d e : Bool) → (is_true (from_truth (Some ((((a || b) || c) || d) || e))) && true)
+    ≡ (a || (b || (c || (d || (e || false)))))
+passed true b c d e = refl
+passed false true c d e = refl
+passed false false true d e = refl
+passed false false false true e = refl
+passed false false false false true = refl
+passed false false false false false = refl
+
+module _ (one two three four five : List ℕ) where
+  abbrev given : Row
+  given = Text one ∷ Text two ∷ Text three ∷ Text four ∷ Text five ∷ []
+
+  abbrev tags : List (List ℕ)
+  tags = one ∷ two ∷ three ∷ four ∷ five ∷ []
+
+  is_tagged : (x : PackRow) → list_all (holds (given ∷ pack_values x ∷ [])) with_tags
+      ≡ list_any (bytes_eq (first_tag x.lines)) tags
+  is_tagged x =
+      let tag = first_tag x.lines in
+      let a = bytes_eq tag one in
+      let b = bytes_eq tag two in
+      let c = bytes_eq tag three in
+      let d = bytes_eq tag four in
+      let e = bytes_eq tag five in
+      ap (λ v. is_true v && true) (
+      ap₂ (binary Or) (
+      ap₂ (binary Or) (
+      ap₂ (binary Or) (ap₂ (binary Or) (has_tag one tag) (has_tag two tag) ∙ either a b) (has_tag three tag)
+      ∙ either (a || b) c) (has_tag four tag) ∙ either ((a || b) || c) d) (has_tag five tag)
+      ∙ either (((a || b) || c) || d) e) ∙ passed a b c d e
+
+  pub reads_tagged_by : (old new : State) (all : List Row) (rows : Rows) → rows.has_spans ≡ true
+      → Settled old rows → Shown tagged_by given old new all
+      → all ≡ map (λ (p : PackRow). Int (pos p.no) ∷ [])
+      (filter (λ (p : PackRow). list_any (bytes_eq (first_tag p.lines)) tags) rows.packs)
+  reads_tagged_by old new all rows second was h =
+      let has = was.schema ∙ ap archive_schema second in
+      let reads = reads_as tagged_by given old new (archive_schema true) has _ tagged_by_is
+      (tagged_by_plain true) tagged_by_unlisted all h in
+      found_in_order pack_values (λ (x : PackRow). x.no) (λ _. refl) given with_tags
+      (λ (p : PackRow). list_any (bytes_eq (first_tag p.lines)) tags) is_tagged 11 (col 1 0 ∷ [])
+      (overlay old.now.trees []) rows.packs all (kept_of rows old.now.trees second was.good.holds).packs_kept
+      (reads.answer Null)
 
 pub reads_pack_at : (old new : State) (n : ℕ) (all : List Row) (rows : Rows) → rows.has_spans ≡ true
     → Settled old rows → Shown pack_at (Int (pos n) ∷ []) old new all

@@ -5,7 +5,7 @@ use Rattle.sqlite.specs.declared.types.Value.TheVariants.{Null, Int}
 use Rattle.sqlite.specs.Collation.TheVariants.{Binary}
 use Rattle.sqlite.specs.Query.{Join, inner, end}
 use Rattle.sqlite.specs.Term.{Term, lit, col, op2}
-use Rattle.sqlite_sql.specs.declared.ops.BinaryOp.TheVariants.{Compare}
+use Rattle.sqlite_sql.specs.declared.ops.BinaryOp.TheVariants.{Compare, Or}
 use Rattle.sqlite_sql.specs.declared.ops.CompareOp.TheVariants.{Eq}
 use Rattle.sqlite.specs.Source.TheVariants.{Values}
 use Rattle.sqlite.specs.Command.TheVariants.{Insert, Select}
@@ -72,6 +72,32 @@ pack_at_plain true = (refl, refl)
 pub pack_at_unlisted : reads_listing (archive_schema true) pack_at ≡ false
 unfolding understood everything
 pack_at_unlisted = refl
+
+abbrev pub tagged_by : List ℕ
+tagged_by = codes
+    "SELECT no FROM line WHERE tag = ?1 OR tag = ?2 OR tag = ?3 OR tag = ?4 OR tag = ?5 ORDER BY no"
+
+-- whether the tag is that of a parameter
+abbrev pub is_tag : ℕ → Term
+is_tag place = op2 (Compare Eq Binary) (col 1 4) (col 0 place)
+
+-- or that of one of five
+abbrev pub with_tags : List Term
+with_tags = op2 Or (op2 Or (op2 Or (op2 Or (is_tag 0) (is_tag 1)) (is_tag 2)) (is_tag 3)) (is_tag 4) ∷ []
+
+pub tagged_by_is : command_of (understood (archive_schema true) tagged_by) ≡ Select
+    (record { lets = []; body = simple 11 with_tags (col 1 0 ∷ []) by_key }) (codes "no" ∷ [])
+unfolding understood everything
+tagged_by_is = refl
+
+pub tagged_by_plain : (b : Bool) → IsPlain (understood (archive_schema b) tagged_by)
+unfolding understood everything
+tagged_by_plain false = (refl, refl)
+tagged_by_plain true = (refl, refl)
+
+pub tagged_by_unlisted : reads_listing (archive_schema true) tagged_by ≡ false
+unfolding understood everything
+tagged_by_unlisted = refl
 
 -- the same if the number has a row of a closed batch
 abbrev pub closed_pack_at : List ℕ

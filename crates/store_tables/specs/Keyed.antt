@@ -39,6 +39,7 @@ use Rattle.store_tables.specs.Rows.{
   LinkRow,
   SoughtRow,
   PastRow,
+  first_tag,
   lines_of,
 }
 use Rattle.store_tables.specs.Reading.{
@@ -108,6 +109,20 @@ slip_lines_at n rows = map read_slip_line (filter (λ (s : SlipLineRow). s.slip 
 abbrev pub is_number : ℕ → Option ℕ → Bool
 is_number n None = false
 is_number n (Some m) = m == n
+
+-- the numbers whose first line has one of these tags, in the order of their rows
+abbrev pub tagged_by : List (List ℕ) → Rows → List ℕ
+tagged_by tags rows = map (λ (p : PackRow). p.no)
+    (filter (λ (p : PackRow). list_any (bytes_eq (first_tag p.lines)) tags) rows.packs)
+
+-- whether lines begin with one that has one of these tags
+abbrev pub begin_with : List (List ℕ) → List (ℕ × Label) → Bool
+begin_with tags [] = false
+begin_with tags (l ∷ ls) = list_any (bytes_eq l.1.tag) tags
+
+-- the numbers whose lines begin so, and no others
+abbrev pub AreTagged : List (List ℕ) → Rows → List ℕ → Type 0
+AreTagged tags rows numbers = (n : ℕ) → list_any (λ k. k == n) numbers ≡ begin_with tags (lines_of n rows)
 
 -- the pairs of a number that is named, in the order of the records that name it
 abbrev pub links_to : ℕ → Rows → List LinkRow

@@ -1,11 +1,12 @@
 //! The rows of one number or of one token, each read by a statement that names it.
 
-ghost use Rattle.std.specs.Prelude.{◌≡◌, ◌≤◌, true, false, List, length, map, IfOk, IfErr};
+ghost use Rattle.std.specs.Prelude.{◌≡◌, ◌≤◌, ◌∷◌, [], true, false, List, length, map, IfOk, IfErr};
 ghost use Rattle.sqlite.specs.Held.{state};
 ghost use Rattle.store_tables.specs.Calls.{IsNoOther};
 ghost use Rattle.store_tables.specs.Conversion.{FailsUnless};
 ghost use Rattle.store_tables.specs.Keyed.{
   AreClosedLines,
+  AreTagged,
   IsOnly,
   batches_at,
   closed_packs_at,
@@ -14,6 +15,7 @@ ghost use Rattle.store_tables.specs.Keyed.{
   slips_at,
   lines_within,
   packs_at,
+  tagged_by,
 };
 ghost use Rattle.store_tables.specs.Looking.{Looks};
 ghost use Rattle.store_tables.specs.Reading.{read_pack};
@@ -37,6 +39,9 @@ const PACK_AT: &str = "SELECT no, tag, text, dst FROM line WHERE no = ?1 ORDER B
 
 const CLOSED_PACK_AT: &str =
     "SELECT l.no, tag, text, dst FROM record r, batch b, line l WHERE r.no=?1 AND b.no=batch AND is_open=0 AND l.no=?1";
+
+const TAGGED_BY: &str =
+    "SELECT no FROM line WHERE tag = ?1 OR tag = ?2 OR tag = ?3 OR tag = ?4 OR tag = ?5 ORDER BY no";
 
 const RECEIPTS_AT: &str =
     "SELECT token, digest, first, count FROM receipt WHERE token = ?1 ORDER BY id";
@@ -114,6 +119,49 @@ pub fn closed_lines_at<S: Alter>(
         return Err(RefusalKind::Storage);
     }
     closed_pack_at(alloc, conn, number)
+}
+
+/// The numbers whose first line has one of these tags, of which some may be the same. The whole table is read. 80 also
+/// if the tables are those of the first schema.
+pub fn tagged_by<S: Alter>(
+    alloc: Global,
+    conn: &mut Connection<S>,
+    one: &str,
+    two: &str,
+    three: &str,
+    four: &str,
+    five: &str,
+) -> Result<Vec<u32>, RefusalKind>
+    requires autocommit { conn.old.in_transaction ≡ false }
+    ensures looks { Looks (λ rows items.
+        AreTagged (one.now ∷ two.now ∷ three.now ∷ four.now ∷ five.now ∷ []) rows items.items)
+        (state S.Store conn.old) (state S.Store conn.new) result }
+    ensures ended { conn.new.in_transaction ≡ false }
+{
+    if !is_second(conn) {
+        return Err(RefusalKind::Storage);
+    }
+    numbers_tagged(alloc, conn, one, two, three, four, five)
+}
+
+/// The same in the order of the rows, of tables that are not those of the first schema.
+fn numbers_tagged<S: Alter>(
+    alloc: Global,
+    conn: &mut Connection<S>,
+    one: &str,
+    two: &str,
+    three: &str,
+    four: &str,
+    five: &str,
+) -> Result<Vec<u32>, RefusalKind>
+    requires autocommit { conn.old.in_transaction ≡ false }
+    requires second { IsNoOther true (state S.Store conn.old) }
+    ensures looks { Looks (λ rows items.
+        items.items ≡ tagged_by (one.now ∷ two.now ∷ three.now ∷ four.now ∷ five.now ∷ []) rows)
+        (state S.Store conn.old) (state S.Store conn.new) result }
+    ensures ended { conn.new.in_transaction ≡ false }
+{
+    read_all(alloc, conn, TAGGED_BY, params![one, two, three, four, five])
 }
 
 /// The lines of a number, where it has some.

@@ -21,6 +21,7 @@ mod typing;
 mod version;
 
 pub use creating::{create, create_later_tables};
+pub use pairs::integer_of;
 pub use reading::{count_receipts, read_batches, read_records_by_batch, read_rows, society};
 pub use stored::{
     BatchRow, LineRow, LinkRow, PackRow, PastRow, ReceiptRow, RecordRow, SlipLineRow, SlipRow,

@@ -7,7 +7,7 @@ ghost use Rattle.store_tables.specs.Rows.{integer_at, pair_place};
 use crate::stored::LinkRow;
 
 /// The integer of a pair: pairs are in the order of the number that is named, and then in that of the record.
-pub(crate) fn integer_of(target: u32, number: u32) -> i64
+pub fn integer_of(target: u32, number: u32) -> i64
     ensures { result ≡ integer_at (pair_place target number) }
 {
     (i64::from(target) - 2147483648) * 4294967296 + i64::from(number)

@@ -2,7 +2,7 @@ use Rattle.std.proofs.Common.{◌≡◌, ap, ◌∙◌}
 use Rattle.std.specs.FinMap as map
 use Rattle.searching.specs.Lines as lines
 use Rattle.searching.specs.Walking.{counted}
-use Rattle.searching.proofs.Counted.{page_is}
+use Rattle.searching.proofs.Chosen.{counted_chosen}
 use Rattle.searching.proofs.Walked.{looked_more}
 use Rattle.searching.proofs.counting.page_and_others.Goals as goal
 
@@ -21,6 +21,7 @@ returns-clause-shows g c honest =
                 (λ found. found ≡ lines.page_and_others c.args.wanted.now c.args.after c.args.limit (map.entries m))
                 (λ found is. is
                 ∙ ap (counted (map.get m) c.args.wanted.now c.args.after c.args.limit) (c.deref.ensures.value ∙ told.1)
-                ∙ page_is m c.args.wanted.now c.args.after c.args.limit) c.counted.result found.1,
+                ∙ counted_chosen c.args.wanted.now (g.V.View.content held) c.args.after c.args.limit)
+                c.counted.result found.1,
           ),
     )

@@ -2,7 +2,8 @@ use Rattle.std.proofs.Common.{◌≡◌, ap, ◌∙◌}
 use Rattle.std.specs.FinMap as map
 use Rattle.searching.specs.Lines as lines
 use Rattle.searching.specs.Walking.{walked}
-use Rattle.searching.proofs.Walked.{looked_more, page_is}
+use Rattle.searching.proofs.Chosen.{walked_chosen}
+use Rattle.searching.proofs.Walked.{looked_more}
 use Rattle.searching.proofs.walking.page.Goals as goal
 
 pub returns-clause-shows : goal.returns-clause-shows
@@ -20,6 +21,7 @@ returns-clause-shows g c honest =
                 (λ found. found.items ≡ lines.page c.args.wanted.now c.args.after c.args.limit (map.entries m))
                 (λ found is. is
                 ∙ ap (walked (map.get m) c.args.wanted.now c.args.after c.args.limit) (c.deref.ensures.value ∙ told.1)
-                ∙ page_is m c.args.wanted.now c.args.after c.args.limit) c.walked.result found.1,
+                ∙ walked_chosen c.args.wanted.now (g.V.View.content held) c.args.after c.args.limit)
+                c.walked.result found.1,
           ),
     )
