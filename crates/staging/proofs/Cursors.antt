@@ -38,17 +38,30 @@ use Rattle.std.proofs.Common.{
 }
 use Rattle.std.specs.Option.{is_some}
 use Rattle.std.proofs.lemmas.Bool.Decides.{nat_tests}
-use Rattle.std.proofs.lemmas.List.{drop_all}
+use Rattle.std.proofs.lemmas.List.{
+  drop-append-le,
+  drop-drop,
+  drop-map,
+  drop-take,
+  drop_all,
+  length-drop,
+  length-map,
+  take-append-drop,
+  take-append-le,
+  take-map,
+  take-take,
+}
 use Rattle.sqlite.specs.State.{State, HasCleanDisk, Survives}
 use Rattle.sqlite.proofs.StateLemmas.{survives_then}
 use Rattle.record_shapes.specs.Lists.{EachOf}
 use Rattle.archive_state.specs.declared.changes.Numbered.{Numbered}
 use Rattle.store_tables.specs.Calls.{Follows, FollowsDated, Inside}
-use Rattle.store_tables.specs.Rows.{Rows, with_record_row}
+use Rattle.store_tables.specs.Rows.{LinkRow, Rows, with_link}
 use Rattle.store_tables.proofs.Calls.{follows_then}
 use Rattle.store_tables.proofs.Loops.{and_last}
 use Rattle.store_rows.specs.Shallow.{IsShallowPut}
-use Rattle.store_rows.specs.Writing.{kind_word}
+use Rattle.bulk_inserts.specs.Links.{AreNewLinks, with_links}
+use Rattle.bulk_inserts.specs.Records.{with_records}
 use Rattle.store_rows.proofs.Dated.{nothing_done}
 use Rattle.staged_rows.specs.Staging.{
   StagedRow,
@@ -70,6 +83,7 @@ use Rattle.staging.specs.Opened.{
   IsPlaced,
   later_left,
   left_of,
+  new_record,
   row_of_sought_row,
   row_of_span,
 }
@@ -84,17 +98,9 @@ use Rattle.staging.proofs.Counting.{taken_next}
 add_one : (k : ℕ) → suc k ≡ k + 1
 add_one k = omega arith
 
-drop_suc : {A : Type 0} (k : ℕ) (xs : List A) → drop 1 (drop k xs) ≡ drop (suc k) xs
-drop_suc zero xs = refl
-drop_suc (suc k) [] = refl
-drop_suc (suc k) (x ∷ xs) = drop_suc k xs
-
-drop_one : {A : Type 0} (k : ℕ) (xs : List A) → drop 1 (drop k xs) ≡ drop (k + 1) xs
-drop_one k xs = drop_suc k xs ∙ ap (λ n. drop n xs) (add_one k)
-
-pub left_on : {A : Type 0} (k : ℕ) (all rest next : List A) → next ≡ drop 1 rest → rest ≡ drop k all
-    → next ≡ drop (k + 1) all
-left_on k all rest next is was = is ∙ ap (drop 1) was ∙ drop_one k all
+pub left_on : {A : Type 0} (k j : ℕ) (all rest next : List A) → next ≡ drop j rest → rest ≡ drop k all
+    → next ≡ drop (k + j) all
+left_on k j all rest next is was = is ∙ ap (drop j) was ∙ drop-drop j k all
 
 -- what a look into a slice has found
 pub past_all : {A : Type 0} (o : Option A) (k n : ℕ) → is_some o ≡ nat_lt k n → o ≡ None → n ≤ k
@@ -142,10 +148,10 @@ new_then : (xs ys : List StagedRow) (rows : Rows) → AreNew xs rows → AreNew 
 new_then [] ys rows a b = b
 new_then (x ∷ xs) ys rows a b = (a.0, new_then xs ys (with_staged_row x rows) a.1 b)
 
-taken_more : {A : Type 0} (k : ℕ) (xs : List A) → take (suc k) xs ≡ take k xs ++ take 1 (drop k xs)
-taken_more zero xs = refl
-taken_more (suc k) [] = refl
-taken_more (suc k) (x ∷ xs) = ap (λ ys. x ∷ ys) (taken_more k xs)
+taken_more : {A : Type 0} (k j : ℕ) (xs : List A) → take (k + j) xs ≡ take k xs ++ take j (drop k xs)
+taken_more k j xs =
+    sym (take-append-drop k (take (k + j) xs))
+    ∙ ap₂ (λ ys zs. ys ++ zs) (take-take k (k + j) xs (omega arith)) (drop-take k j xs)
 
 -- so many of all rows are written
 pub record IsStaged (old now : State) (all : List StagedRow) (k : ℕ) : Type 0 where
@@ -155,22 +161,21 @@ pub record IsStaged (old now : State) (all : List StagedRow) (k : ℕ) : Type 0 
 pub none_staged : (s : State) (all : List StagedRow) → IsStaged s s all 0
 none_staged s all = record { survives = nothing_done s; leads = λ clean rows has was. (was, refl, tt) }
 
-pub one_turn : (old mid now : State) (all rest : List StagedRow) (k : ℕ) → rest ≡ drop k all → IsStaged old mid all k
-    → (HasCleanDisk now → FollowsStaged mid now (take 1 rest)) → Survives mid now (λ _. ⊥)
-    → IsStaged old now all (k + 1)
-one_turn old mid now all rest k is way step kept = record {
+pub one_turn : (old mid now : State) (all rest : List StagedRow) (k j : ℕ) → rest ≡ drop k all
+    → IsStaged old mid all k → (HasCleanDisk now → FollowsStaged mid now (take j rest)) → Survives mid now (λ _. ⊥)
+    → IsStaged old now all (k + j)
+one_turn old mid now all rest k j is way step kept = record {
   survives = survives_then old mid now _ _ (λ _. ⊥) (λ _ db none. none) (λ _ db none. none) way.survives kept;
   leads = λ clean rows has was.
       let one = way.leads (omega (arith, kept.clean)) rows has was in
       let here = with_staged (take k all) rows in
-      let next = subst (λ rs. FollowsStaged mid now (take 1 rs)) is (step clean) here
+      let next = subst (λ rs. FollowsStaged mid now (take j rs)) is (step clean) here
       (staged_has (take k all) rows ∙ has) one.0 in
-      let both : take (k + 1) all ≡ take k all ++ take 1 (drop k all) = ap (λ n. take n all) (sym (add_one k))
-      ∙ taken_more k all in (
+      let both = taken_more k j all in (
         subst (λ rs. Inside now (with_staged rs rows)) (sym both)
-            (subst (Inside now) (sym (joined (take k all) (take 1 (drop k all)) rows)) next.0),
+            (subst (Inside now) (sym (joined (take k all) (take j (drop k all)) rows)) next.0),
         next.1 ∙ one.1,
-        subst (λ rs. AreNew rs rows) (sym both) (new_then (take k all) (take 1 (drop k all)) rows one.2 next.2),
+        subst (λ rs. AreNew rs rows) (sym both) (new_then (take k all) (take j (drop k all)) rows one.2 next.2),
       );
 }
 
@@ -302,27 +307,48 @@ some_spans later c past more = (
     unless false e none = refl
     unless true e none = absurd (spans_more later c (below_is c.spans (length later.spans.items) e) none)
 
--- ---- one row of `record` more
-module _ (batch : ℕ) (ps : List Numbered) (later : Later) (old : Cursor) (p : Numbered) (low : old.rows < length ps)
-    (is : p ≡ get_or ps old.rows p) where
+-- ---- so many rows of `record`
+records_new : (batch : ℕ) (ps : List Numbered) (rows : Rows) → AreNew (map (record_of batch) ps) rows
+records_new batch [] rows = tt
+records_new batch (p ∷ ps) rows = (tt, records_new batch ps (with_staged_row (record_of batch p) rows))
+
+pub staged_records : (batch : ℕ) (ps : List Numbered) (rows : Rows)
+    → with_staged (map (record_of batch) ps) rows ≡ with_records batch (map new_record ps) rows
+staged_records batch [] rows = refl
+staged_records batch (p ∷ ps) rows = staged_records batch ps (with_staged_row (record_of batch p) rows)
+
+module _ (batch : ℕ) (ps : List Numbered) (later : Later) (old : Cursor) (n : ℕ) (few : old.rows + n ≤ length ps) where
   abbrev beside : List StagedRow
   beside = map lines_of_put (drop old.done ps) ++ later_left later old
 
-  row_left : left_of batch ps later old ≡ record_of batch p ∷ (map (record_of batch) (drop (old.rows + 1) ps) ++ beside)
-  row_left = ap (λ qs. map (record_of batch) qs ++ beside) (item_and_rest old.rows ps p low is)
+  abbrev records_in : List StagedRow
+  records_in = map (record_of batch) (drop old.rows ps)
 
-  pub record_written : (a b : State) → Follows a b (with_record_row p.number (kind_word p.«record») batch)
-      → FollowsStaged a b (take 1 (left_of batch ps later old))
-  record_written a b did rows has was =
-      let done = did rows was in
-      let first : take 1 (left_of batch ps later old) ≡ record_of batch p ∷ [] = ap (take 1) row_left in (
-        subst (λ rs. Inside b (with_staged rs rows)) (sym first) done.0,
+  records_fit : n ≤ length records_in
+  records_fit =
+      let same = length-map (drop old.rows ps) (record_of batch) in
+      let long = length-drop old.rows ps in
+      omega (arith, few, long, same)
+
+  records_first : take n (left_of batch ps later old) ≡ map (record_of batch) (take n (drop old.rows ps))
+  records_first = take-append-le n records_in beside records_fit ∙ take-map (record_of batch) n (drop old.rows ps)
+
+  pub records_written : (a b : State)
+      → Follows a b (with_staged (map (record_of batch) (take n (drop old.rows ps))))
+      → FollowsStaged a b (take n (left_of batch ps later old))
+  records_written a b did rows has was =
+      let done = did rows was in (
+        subst (λ rs. Inside b (with_staged rs rows)) (sym records_first) done.0,
         done.1,
-        subst (λ rs. AreNew rs rows) (sym first) (tt, tt),
+        subst (λ rs. AreNew rs rows) (sym records_first) (records_new batch (take n (drop old.rows ps)) rows),
       )
 
-  pub record_behind : map (record_of batch) (drop (old.rows + 1) ps) ++ beside ≡ drop 1 (left_of batch ps later old)
-  record_behind = sym (ap (drop 1) row_left)
+  pub records_behind : left_of batch ps later (record old { rows = old.rows + n })
+      ≡ drop n (left_of batch ps later old)
+  records_behind =
+      ap (λ qs. map (record_of batch) qs ++ beside) (sym (drop-drop n old.rows ps))
+      ∙ ap (λ rs. rs ++ beside) (sym (drop-map (record_of batch) n (drop old.rows ps)))
+      ∙ sym (drop-append-le n records_in beside records_fit)
 
 -- ---- the lines of one record more, where all rows of `record` are written
 module _ (batch : ℕ) (ps : List Numbered) (later : Later) (old : Cursor) (p : Numbered) (past : length ps ≤ old.rows)
@@ -369,16 +395,44 @@ module _ {A : Type 0} (f : A → StagedRow) (k : ℕ) (xs : List A) (low : k < l
   pub rest_is : map f (drop (k + 1) xs) ++ ys ≡ drop 1 (map f (drop k xs) ++ ys)
   rest_is = sym (rest_of (map f (drop k xs)) ys next_row (map f (drop (k + 1) xs)) rows_are)
 
-module _ (later : Later) (old : Cursor) where
-  pub link_written : old.links < length later.links.items → (a b : State)
-      → FollowsStaged a b (take 1 (map a_link (drop old.links later.links.items)))
-      → FollowsStaged a b (take 1 (later_left later old))
-  link_written low a b did = subst (FollowsStaged a b)
-      (sym (first_is a_link old.links later.links.items low (soughts_in later old ++ spans_in later old))) did
+-- links as rows of an import
+staged_links : (ls : List LinkRow) (rows : Rows) → with_staged (map a_link ls) rows ≡ with_links ls rows
+staged_links [] rows = refl
+staged_links (l ∷ ls) rows = staged_links ls (with_link l.target l.no rows)
 
-  pub link_behind : old.links < length later.links.items
-      → later_left later (record old { links = old.links + 1 }) ≡ drop 1 (later_left later old)
-  link_behind low = rest_is a_link old.links later.links.items low (soughts_in later old ++ spans_in later old)
+new_links : (ls : List LinkRow) (rows : Rows) → AreNewLinks ls rows → AreNew (map a_link ls) rows
+new_links [] rows new = tt
+new_links (l ∷ ls) rows new = (new.0, new_links ls (with_link l.target l.no rows) new.1)
+
+pub links_follow : (ls : List LinkRow) (a b : State) → FollowsDated a b (with_links ls)
+    → ((rows : Rows) → rows.has_spans ≡ true → Inside a rows → AreNewLinks ls rows)
+    → FollowsStaged a b (map a_link ls)
+links_follow ls a b did fresh rows has was =
+    let done = did rows has was in
+    (subst (Inside b) (sym (staged_links ls rows)) done.0, done.1, new_links ls rows (fresh rows has was))
+
+module _ (later : Later) (old : Cursor) where
+  -- so many links, of which none was there
+  module _ (n : ℕ) (few : old.links + n ≤ length later.links.items) where
+    fit : n ≤ length (drop old.links later.links.items)
+    fit = let long = length-drop old.links later.links.items in omega (arith, few, long)
+
+    fit_as_rows : n ≤ length (links_in later old)
+    fit_as_rows = let same = length-map (drop old.links later.links.items) a_link in omega (arith, fit, same)
+
+    pub links_written : (a b : State) → FollowsStaged a b (map a_link (take n (drop old.links later.links.items)))
+        → FollowsStaged a b (take n (later_left later old))
+    links_written a b did = subst (FollowsStaged a b)
+        (sym (take-append-le n (links_in later old) (soughts_in later old ++ spans_in later old) fit_as_rows
+        ∙ take-map a_link n (drop old.links later.links.items))) did
+
+    pub links_behind : later_left later (record old { links = old.links + n }) ≡ drop n (later_left later old)
+    links_behind =
+        ap (λ ls. map a_link ls ++ (soughts_in later old ++ spans_in later old))
+        (sym (drop-drop n old.links later.links.items))
+        ∙ ap (λ rs. rs ++ (soughts_in later old ++ spans_in later old))
+        (sym (drop-map a_link n (drop old.links later.links.items)))
+        ∙ sym (drop-append-le n (links_in later old) (soughts_in later old ++ spans_in later old) fit_as_rows)
 
   pub sought_written : length later.links.items ≤ old.links → old.soughts < length later.soughts.items → (a b : State)
       → FollowsDated a b (with_staged (take 1 (map row_of_sought_row (drop old.soughts later.soughts.items))))
@@ -437,18 +491,18 @@ goes_later old new is = subst (λ (c : Cursor). c ≡ record old { links = c.lin
 -- where it is written, and the rows before it are all
 module _ (batch : ℕ) (ps : List Numbered) (later : Later) (old : Cursor) (rows : length ps ≤ old.rows)
     (done : length ps ≤ old.done) where
-  pub later_written : (a b : State) → FollowsStaged a b (take 1 (later_left later old))
-      → FollowsStaged a b (take 1 (left_of batch ps later old))
-  later_written a b did = subst (λ rs. FollowsStaged a b (take 1 rs)) (sym (later_alone batch ps later old rows done))
-      did
+  pub later_written : (n : ℕ) (a b : State) → FollowsStaged a b (take n (later_left later old))
+      → FollowsStaged a b (take n (left_of batch ps later old))
+  later_written n a b did = subst (λ rs. FollowsStaged a b (take n rs))
+      (sym (later_alone batch ps later old rows done)) did
 
-  pub later_behind : (new : Cursor) → GoesOnLater old new → later_left later new ≡ drop 1 (later_left later old)
-      → left_of batch ps later new ≡ drop 1 (left_of batch ps later old)
-  later_behind new is left =
+  pub later_behind : (n : ℕ) (new : Cursor) → GoesOnLater old new → later_left later new ≡ drop n (later_left later old)
+      → left_of batch ps later new ≡ drop n (left_of batch ps later old)
+  later_behind n new is left =
       ap (left_of batch ps later) is
       ∙ later_alone batch ps later (record old { links = new.links; soughts = new.soughts; spans = new.spans }) rows
       done
-      ∙ sym (ap (later_left later) is) ∙ left ∙ sym (ap (drop 1) (later_alone batch ps later old rows done))
+      ∙ sym (ap (later_left later) is) ∙ left ∙ sym (ap (drop n) (later_alone batch ps later old rows done))
 
 pub later_placed : (ps : List Numbered) (old new : Cursor) → GoesOnLater old new → IsPlaced ps old → IsPlaced ps new
 later_placed ps old new is placed = subst (IsPlaced ps) (sym is) placed

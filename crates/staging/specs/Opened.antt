@@ -20,6 +20,7 @@ use Rattle.archive_state.specs.Changes.{Changes}
 use Rattle.archive_state.specs.declared.changes.Numbered.{Numbered}
 use Rattle.store_rows.specs.Shallow.{IsShallowPut}
 use Rattle.store_rows.specs.Spans.{AreDrawn, Drawn}
+use Rattle.store_rows.specs.Writing.{kind_word}
 use Rattle.sqlite.specs.State.{State}
 use Rattle.store_tables.specs.Calls.{Inside}
 use Rattle.store_tables.specs.Rows.{LinkRow, Rows, SoughtRow}
@@ -56,6 +57,10 @@ links_written i = take (length (links_of i.changes.puts) - length (links_among i
 abbrev pub FollowsStaged : State → State → List StagedRow → Type 0
 FollowsStaged old new rs = (rows : Rows) → rows.has_spans ≡ true → Inside old rows
     → Inside new (with_staged rs rows) × (new.committed ≡ old.committed) × AreNew rs rows
+
+-- ---- the rows of `record` of what it puts, without their batch
+abbrev pub new_record : Numbered → ℕ × List ℕ
+new_record p = (p.number, kind_word p.«record»)
 
 -- ---- the links of the records that it puts, as pairs of the number that is named and the one of the record
 abbrev pub link_of : ℕ × ℕ → LinkRow

@@ -1,21 +1,22 @@
 //! The rows of an import, written inside a transaction.
 
-ghost use Rattle.std.specs.Prelude.{◌≡◌, ◌⊎◌, ◌<◌, ◌+◌, ◌∷◌, [], length, map, take, drop, OnOk, IfErr};
+ghost use Rattle.std.specs.Prelude.{◌≡◌, ◌⊎◌, ◌<◌, ◌≤◌, ◌+◌, ◌∷◌, [], length, map, take, drop, OnOk, IfOk, IfErr};
 ghost use Rattle.sqlite.specs.Held.{state};
 ghost use Rattle.sqlite.specs.State.{HasCleanDisk};
 ghost use Rattle.record_text.specs.declared.refusal.RefusalKind.TheVariants.{OutOfMemory, Storage};
 ghost use Rattle.record_shapes.specs.Lists.{EachOf};
-ghost use Rattle.store_tables.specs.Calls.{LeavesAsBefore, Writes, WritesDated};
+ghost use Rattle.store_tables.specs.Calls.{Follows, LeavesAsBefore, Writes, WritesDated};
 ghost use Rattle.store_tables.specs.Rows.{with_closed, with_next};
 ghost use Rattle.store_rows.specs.Shallow.{IsShallowPut};
 ghost use Rattle.store_rows.specs.Writing.{with_kept_written};
-ghost use Rattle.staged_rows.specs.Staging.{a_link, lines_of_put, with_published, with_staged};
+ghost use Rattle.staged_rows.specs.Staging.{a_link, lines_of_put, record_of, with_published, with_staged};
 ghost use Rattle.staging.specs.Opened.{
   FollowsStaged,
   GoesOnLater,
   IsPlaced,
   later_left,
   left_of,
+  new_record,
   row_of_sought_row,
   row_of_span,
 };
@@ -25,13 +26,14 @@ use crate::dated::Dated;
 use crate::later::Later;
 use crate::opened::OpenImport;
 use archive_state::{Kept, Numbered};
+use bulk_inserts::{NewRecord, insert_links, insert_records};
 use record_text::RefusalKind;
 use records::lines_of;
 use sqlite::{Alter, Error, Transaction};
-use std::alloc::Global;
+use std::alloc::{AllocError, Global};
 use store_rows::{Unwritten, kind_of, kind_word, write_kept};
 use store_tables::lines::insert_lines;
-use store_tables::{LinkRow, SoughtRow, batches, links, rows, soughts, spans};
+use store_tables::{LinkRow, SoughtRow, batches, rows, soughts, spans};
 
 /// How many rows a stage writes.
 pub(crate) const STAGE: u32 = 256;
@@ -119,89 +121,148 @@ fn write_rows<S: Alter>(
     ensures placed { OnOk result (IsPlaced puts.now cursor.new) }
     ensures survives { LeavesAsBefore (state S.Store tx.old.conn.now) (state S.Store tx.new.conn.now) }
 {
-    'rows: for row in 0..STAGE {
-        write_next(alloc, tx, batch, puts, later, cursor)?;
+    let mut room = STAGE as usize;
+    'rows: while room > 0 {
+        let written = write_some(alloc, tx, batch, puts, later, cursor, room)?;
+        room -= written;
     }
     Ok(())
 }
 
-/// Writes the next row, where one is left.
-fn write_next<S: Alter>(
+/// Writes some of the next rows, at most so many, and returns how many: rows of `record` and links together, all others
+/// one by one. Where none is left, one counts as written.
+fn write_some<S: Alter>(
     alloc: Global,
     tx: &mut Transaction<'_, S>,
     batch: u32,
     puts: &[Numbered],
     later: &Later,
     cursor: &mut Cursor,
-) -> Result<(), Unwritten>
+    room: usize,
+) -> Result<usize, Unwritten>
     requires placed { IsPlaced puts.now cursor.old }
+    requires room { 0 < room }
     ensures same_reference { tx.new.conn.ghost_name ≡ tx.old.conn.ghost_name }
-    ensures ok { HasCleanDisk (state S.Store tx.new.conn.now) → OnOk result
-        (FollowsStaged (state S.Store tx.old.conn.now) (state S.Store tx.new.conn.now)
-        (take 1 (left_of batch puts.now later.now cursor.old))) }
-    ensures left { OnOk result (left_of batch puts.now later.now cursor.new
-        ≡ drop 1 (left_of batch puts.now later.now cursor.old)) }
+    ensures few { IfOk result (λ n. (0 < n) × (n ≤ room)) }
+    ensures ok { HasCleanDisk (state S.Store tx.new.conn.now) → IfOk result (λ n.
+        FollowsStaged (state S.Store tx.old.conn.now) (state S.Store tx.new.conn.now)
+        (take n (left_of batch puts.now later.now cursor.old))) }
+    ensures left { IfOk result (λ n. left_of batch puts.now later.now cursor.new
+        ≡ drop n (left_of batch puts.now later.now cursor.old)) }
     ensures placed { OnOk result (IsPlaced puts.now cursor.new) }
     ensures survives { LeavesAsBefore (state S.Store tx.old.conn.now) (state S.Store tx.new.conn.now) }
 {
-    if let Some(put) = puts.get(cursor.rows) {
-        rows::insert_record(tx, put.number, kind_word(&put.record), batch)?;
-        cursor.rows += 1;
-        return Ok(());
+    if cursor.rows < puts.len() {
+        let written = write_records(alloc, tx, batch, puts, cursor, room)?;
+        return Ok(written);
     }
     let Some(put) = puts.get(cursor.done) else {
-        write_later(tx, later, cursor)?;
-        return Ok(());
+        let written = write_later(tx, later, cursor, room)?;
+        return Ok(written);
     };
     write_lines(alloc, tx, put)?;
     cursor.done += 1;
-    Ok(())
+    Ok(1)
 }
 
-/// Writes the next row that comes after the lines, where one is left.
+/// Writes the next rows of `record`, at most so many, and returns how many.
+fn write_records<S: Alter>(
+    alloc: Global,
+    tx: &mut Transaction<'_, S>,
+    batch: u32,
+    puts: &[Numbered],
+    cursor: &mut Cursor,
+    room: usize,
+) -> Result<usize, Unwritten>
+    requires there { cursor.old.rows < length puts.now }
+    requires room { 0 < room }
+    ensures same_reference { tx.new.conn.ghost_name ≡ tx.old.conn.ghost_name }
+    ensures few { IfOk result (λ n. (0 < n) × (n ≤ room) × (cursor.old.rows + n ≤ length puts.now)) }
+    ensures ok { HasCleanDisk (state S.Store tx.new.conn.now) → IfOk result (λ n.
+        Follows (state S.Store tx.old.conn.now) (state S.Store tx.new.conn.now)
+        (with_staged (map (record_of batch) (take n (drop cursor.old.rows puts.now))))) }
+    ensures next { IfOk result (λ n. cursor.new ≡ record cursor.old { rows = cursor.old.rows + n }) }
+    ensures survives { LeavesAsBefore (state S.Store tx.old.conn.now) (state S.Store tx.new.conn.now) }
+{
+    let (_, left) = puts.split_at(cursor.rows);
+    let number = room.min(left.len());
+    let (some, _) = left.split_at(number);
+    let records = new_records(alloc, some)?;
+    insert_records(tx, records.as_slice(), batch)?;
+    cursor.rows += number;
+    Ok(number)
+}
+
+/// The rows of `record` of what is put, without their batch.
+fn new_records(alloc: Global, puts: &[Numbered]) -> Result<Vec<NewRecord>, AllocError>
+    ensures { IfOk result (λ rows. rows.items ≡ map new_record puts.now) }
+{
+    let mut rows = Vec::with_capacity(alloc, puts.len())?;
+    'puts: for put in puts {
+        rows.push(NewRecord {
+            number: put.number,
+            kind: kind_word(&put.record),
+        })?;
+    }
+    Ok(rows)
+}
+
+/// Writes the next rows that come after the lines, at most so many, and returns how many: links together, all others
+/// one by one. Where none is left, one counts as written.
 fn write_later<S: Alter>(
     tx: &mut Transaction<'_, S>,
     later: &Later,
     cursor: &mut Cursor,
-) -> Result<(), Error>
+    room: usize,
+) -> Result<usize, Error>
+    requires room { 0 < room }
     ensures same_reference { tx.new.conn.ghost_name ≡ tx.old.conn.ghost_name }
-    ensures ok { HasCleanDisk (state S.Store tx.new.conn.now) → OnOk result
-        (FollowsStaged (state S.Store tx.old.conn.now) (state S.Store tx.new.conn.now)
-        (take 1 (later_left later.now cursor.old))) }
-    ensures left { OnOk result (later_left later.now cursor.new ≡ drop 1 (later_left later.now cursor.old)) }
+    ensures few { IfOk result (λ n. (0 < n) × (n ≤ room)) }
+    ensures ok { HasCleanDisk (state S.Store tx.new.conn.now) → IfOk result (λ n.
+        FollowsStaged (state S.Store tx.old.conn.now) (state S.Store tx.new.conn.now)
+        (take n (later_left later.now cursor.old))) }
+    ensures left { IfOk result (λ n. later_left later.now cursor.new ≡ drop n (later_left later.now cursor.old)) }
     ensures others { OnOk result (GoesOnLater cursor.old cursor.new) }
     ensures survives { LeavesAsBefore (state S.Store tx.old.conn.now) (state S.Store tx.new.conn.now) }
 {
     let links = later.links.as_slice();
     if cursor.links < links.len() {
-        return write_link(tx, links, cursor);
+        let written = write_links(tx, links, cursor, room)?;
+        return Ok(written);
     }
     let soughts = later.soughts.as_slice();
     if cursor.soughts < soughts.len() {
-        return write_sought(tx, soughts, cursor);
+        write_sought(tx, soughts, cursor)?;
+        return Ok(1);
     }
     let spans = later.spans.as_slice();
-    write_span(tx, spans, cursor)
+    write_span(tx, spans, cursor)?;
+    Ok(1)
 }
 
-/// Writes the next link.
-fn write_link<S: Alter>(
+/// Writes the next links, at most so many, and returns how many.
+fn write_links<S: Alter>(
     tx: &mut Transaction<'_, S>,
     links: &[LinkRow],
     cursor: &mut Cursor,
-) -> Result<(), Error>
+    room: usize,
+) -> Result<usize, Error>
     requires there { cursor.old.links < length links.now }
+    requires room { 0 < room }
     ensures same_reference { tx.new.conn.ghost_name ≡ tx.old.conn.ghost_name }
-    ensures ok { HasCleanDisk (state S.Store tx.new.conn.now) → OnOk result
-        (FollowsStaged (state S.Store tx.old.conn.now) (state S.Store tx.new.conn.now)
-        (take 1 (map a_link (drop cursor.old.links links.now)))) }
-    ensures next { OnOk result (cursor.new ≡ record cursor.old { links = cursor.old.links + 1 }) }
+    ensures few { IfOk result (λ n. (0 < n) × (n ≤ room) × (cursor.old.links + n ≤ length links.now)) }
+    ensures ok { HasCleanDisk (state S.Store tx.new.conn.now) → IfOk result (λ n.
+        FollowsStaged (state S.Store tx.old.conn.now) (state S.Store tx.new.conn.now)
+        (map a_link (take n (drop cursor.old.links links.now)))) }
+    ensures next { IfOk result (λ n. cursor.new ≡ record cursor.old { links = cursor.old.links + n }) }
     ensures survives { LeavesAsBefore (state S.Store tx.old.conn.now) (state S.Store tx.new.conn.now) }
 {
-    let link = &links[cursor.links];
-    links::insert_link(tx, link.target, link.number)?;
-    cursor.links += 1;
-    Ok(())
+    let (_, left) = links.split_at(cursor.links);
+    let number = room.min(left.len());
+    let (some, _) = left.split_at(number);
+    insert_links(tx, some)?;
+    cursor.links += number;
+    Ok(number)
 }
 
 /// Writes what the next record is looked for by.

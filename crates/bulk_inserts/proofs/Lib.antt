@@ -1,0 +1,4 @@
+pub mod Cut
+pub mod EightLinks
+pub mod FourRecords
+pub mod Joined
