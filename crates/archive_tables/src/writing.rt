@@ -15,8 +15,8 @@ ghost use Rattle.archive_tables.specs.Texts as texts;
 
 use crate::sources::listed_of;
 use crate::whole::shown_bytes;
-use archive_state::View;
 use devices::{Device, TransferError, write_bytes};
+use kind_views::KindView;
 use record_lists::{Listed, list_text};
 use record_text::RefusalKind;
 use row_references::{NumberWord, number_in};
@@ -85,7 +85,7 @@ pub fn write_shown<S: Alter, W: Write + Device>(
 }
 
 /// What is listed. `None`: it is of a source of which the word gives no number.
-fn listed_bytes<V: View>(
+fn listed_bytes<V: KindView>(
     alloc: Global,
     view: &mut V,
     source: &Option<NumberWord>,
@@ -93,7 +93,7 @@ fn listed_bytes<V: View>(
 ) -> Result<Option<Vec<u8>>, RefusalKind>
     ensures shows { On V.View view.old view.new (λ c. Looked result
         (λ text. option_map texts.items_of text ≡ texts.list_of source.now listed c)) }
-    ensures counts { CountsFailures (V.failed view.old) (V.failed view.new) result }
+    ensures counts { CountsFailures (V.View.failed view.old) (V.View.failed view.new) result }
 {
     match source {
         None => all_bytes(alloc, view, listed),
@@ -102,7 +102,7 @@ fn listed_bytes<V: View>(
 }
 
 /// What is listed of the source of which a word gives the number. `None`: it gives none.
-fn bytes_by<V: View>(
+fn bytes_by<V: KindView>(
     alloc: Global,
     view: &mut V,
     word: &NumberWord,
@@ -110,7 +110,7 @@ fn bytes_by<V: View>(
 ) -> Result<Option<Vec<u8>>, RefusalKind>
     ensures shows { On V.View view.old view.new (λ c. Looked result
         (λ text. option_map texts.items_of text ≡ texts.list_by word.now listed c)) }
-    ensures counts { CountsFailures (V.failed view.old) (V.failed view.new) result }
+    ensures counts { CountsFailures (V.View.failed view.old) (V.View.failed view.new) result }
 {
     match number_in(alloc, view, word)? {
         Some(number) => all_bytes(alloc, view, listed_of(listed, number)),
@@ -119,14 +119,14 @@ fn bytes_by<V: View>(
 }
 
 /// What is listed. There always is a text.
-fn all_bytes<V: View>(
+fn all_bytes<V: KindView>(
     alloc: Global,
     view: &mut V,
     listed: Listed,
 ) -> Result<Option<Vec<u8>>, RefusalKind>
     ensures shows { On V.View view.old view.new (λ c. Looked result
         (λ text. option_map texts.items_of text ≡ Some (list_text listed c))) }
-    ensures counts { CountsFailures (V.failed view.old) (V.failed view.new) result }
+    ensures counts { CountsFailures (V.View.failed view.old) (V.View.failed view.new) result }
 {
     let text = list_text(alloc, view, &listed)?;
     Ok(Some(text))
