@@ -398,12 +398,22 @@ def no_archive(tools):
 def lines_of_no_record(tools):
     """40 where somebody else has spoilt a record that is looked at, and nothing is written; others are shown."""
     with Listed(tools) as at:
-        at.with_rows(ROWS).other_database("UPDATE line SET tag = 'frob' WHERE no = 2")
+        at.with_rows(ROWS).other_database("UPDATE line SET text = 'frob' WHERE no = 2")
         expect(at.persons(), refused(40))
         expect(at.anns(), refused(40))
         expect(at.show(2), refused(40))
         expect(at.show(5, 2), refused(40))
         expect(at.show(5), written(whole(5).encode()))
+
+
+def a_spoilt_kind(tools):
+    """A record of which somebody else has spoilt the word of its kind is in no list; `audit` and `show` refuse it."""
+    with Listed(tools) as at:
+        persons = [n for n in LINES if LINES[n].startswith("person")]
+        at.with_rows(ROWS).other_database("UPDATE line SET tag = 'frob' WHERE no = 2")
+        expect(at.persons(), listed([n for n in persons if n != 2]))
+        expect(at.show(2), refused(40))
+        expect(run(at.parish, ("audit", at.file), b""), refused(40))
 
 
 def outputs_that_fail(tools):
@@ -465,6 +475,7 @@ TESTS = (
     words_that_are_refused,
     no_archive,
     lines_of_no_record,
+    a_spoilt_kind,
     outputs_that_fail,
     refused_memory,
     another_program_has_it,
